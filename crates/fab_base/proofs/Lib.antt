@@ -1,0 +1,4 @@
+pub mod Correct
+pub mod Counting
+pub mod Entries
+pub mod Stamps

@@ -1,0 +1,4 @@
+pub mod Limits
+pub mod Quorums
+pub mod Roster
+pub mod Table

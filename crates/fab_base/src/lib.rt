@@ -1,0 +1,37 @@
+//! The words that every crate of the fabric shares: who takes part, what is asked and answered, what replicas tell each other.
+//!
+//! Start with `Members` (the clusters, their sizes and the homes of the clients) and with `Message` (the twelve kinds of statement
+//! that replicas and clients send). Every list in a message is a `Rows`, which a contract sees as a list, so that a whole message is
+//! plain data there and `≡` is equality of contents.
+//!
+//! Two definitions stand in `specs/` for all crates above, and nowhere else: `Quorums` (how many members may be faulty, how many
+//! make a quorum, and what a quorum is) and `Table` (the sequential table: what a list of requests means when they are applied one
+//! after another). `quorum_law` is the fact on which every agreement rests: two quorums share more members than may be faulty.
+//!
+//! Nothing here decides anything, and only `members`, `share` and the copies take memory.
+#![tactic(auto)]
+
+mod answers;
+mod duplicates;
+mod ids;
+mod making;
+mod messages;
+mod quorums;
+mod requests;
+mod roster;
+mod rows;
+#[cfg(test)]
+mod tests;
+
+pub use answers::{Answer, Item, Take, Targets};
+pub use ids::{ClientId, Hash32, ReplicaId, Who};
+pub use making::members;
+pub use messages::{
+    Ask, CommitCert, Message, NewView, Note, NoteLine, NoteLines, Plea, PrePrepare, PreparedCert,
+    PreparedCerts, StableVote, StableVotes, ViewChange, ViewChanges, Vote, Votes,
+};
+pub use quorums::{faults, primary, quorum, quorum_law};
+pub use requests::{Batch, Op, Outcome, Outcomes, Reply, Request};
+pub use roster::{Contents, Members};
+pub use rows::{Bytes, Duplicate, Entries, Numbers, Rows};
+pub use std::alloc::AllocError as NoMemory;
