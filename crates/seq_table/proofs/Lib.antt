@@ -1,0 +1,4 @@
+pub mod Pairs
+pub mod Reserving
+pub mod Sorting
+pub mod Steps

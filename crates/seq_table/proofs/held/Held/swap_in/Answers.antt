@@ -1,0 +1,24 @@
+use Rattle.std.proofs.Common.{Some, None, [], ap, sym, ◌∙◌, nat_eq, refl, unwrap_or}
+use Rattle.std.specs.Cmp.Lexicographic.{pointwise}
+use Rattle.std.specs.Map.{set_value, keys_of}
+use Rattle.std.proofs.lemmas.Map.{keys-set_value}
+use Rattle.seq_table.proofs.Steps.{not_swapped, swapped, some_unwrapped}
+use Rattle.seq_table.proofs.held.Held.swap_in.Goals as goal
+
+pub returns-in-Some-2-clause-state : goal.returns-in-Some-2-clause-state
+returns-in-Some-2-clause-state c =
+    not_swapped c.args.self.now c.args.key.now c.args.expected.now (unwrap_or c.args.place []) (Some c.in-Some.value.now) c.in-Some.ensures (sym c.if-eq.ensures)
+
+pub returns-in-None-clause-state : goal.returns-in-None-clause-state
+returns-in-None-clause-state c =
+    not_swapped c.args.self.now c.args.key.now c.args.expected.now (unwrap_or c.args.place []) None c.in-None.ensures refl
+
+pub returns-clause-state : goal.returns-clause-state
+returns-clause-state c =
+    let held = c.args.self.now in
+    let key = c.args.key.now in
+    swapped held c.replace.new.self key c.args.expected.now (unwrap_or c.args.place []) c.in-Some.value.now c.in-Some.ensures (sym c.if-eq.ensures)
+    (c.replace.ensures.after ∙ ap (λ f. set_value (pointwise nat_eq key) held f) (c.fresh.ensures ∙ some_unwrapped c.args.place c.requires.place))
+
+pub returns-clause-keys : goal.returns-clause-keys
+returns-clause-keys c = ap keys_of c.replace.ensures.after ∙ keys-set_value (pointwise nat_eq c.args.key.now) c.args.self.now c.fresh.result
