@@ -1,0 +1,69 @@
+//! The program: its words, standard input and standard output go to the top call, and its status says how that ended.
+#![tactic(auto)]
+
+use fab_io::{ReadSource, WriteSink};
+use fabric_run::{Exit, fabric};
+use std::fmt::{Display, Formatter, Write};
+use std::io::ErrorKind;
+use std::process::ExitCode;
+use std::{env, fmt, io};
+
+/// The line on standard error for an exit, where it has one.
+#[derive(Drop)]
+struct Line<'a>(&'a Exit);
+
+impl Display for Line<'_> {
+    fn fmt<W: Write>(&self, f: &mut Formatter<W>) -> fmt::Result {
+        match self.0 {
+            Exit::Done => Ok(()),
+            Exit::Usage => {
+                write!(
+                    f,
+                    "usage: fabric plain | sim | run | watch CLIENT | gen NUMBER"
+                )
+            }
+            Exit::ReadFault => write!(f, "read fault"),
+            Exit::WriteFault { written: _ } => write!(f, "write fault"),
+            Exit::TooLong => write!(f, "script too long"),
+            Exit::BadScript(bad) => write!(f, "{bad}"),
+            Exit::NoMemory => write!(f, "no memory"),
+        }
+    }
+}
+
+/// The status that the program ends with.
+fn status_of(exit: &Exit) -> u8 {
+    match exit {
+        Exit::Done => 0,
+        Exit::Usage => 2,
+        Exit::ReadFault => 3,
+        Exit::WriteFault { written: _ } => 4,
+        Exit::TooLong => 5,
+        Exit::BadScript(_) => 6,
+        Exit::NoMemory => 10,
+    }
+}
+
+/// The exit of the top call over standard input and output.
+fn run(rt: &HostRuntime) -> Exit {
+    let args = match env::args(rt) {
+        Ok(args) => args,
+        Err(error) if error.kind() == ErrorKind::OutOfMemory => return Exit::NoMemory,
+        Err(_) => return Exit::Usage,
+    };
+    let Ok(words) = args.skip(1).collect::<Vec<String>>(rt.alloc()) else {
+        return Exit::NoMemory;
+    };
+    let mut script = ReadSource::of(rt.reader());
+    let mut report = WriteSink::of(io::writer(rt));
+    fabric(rt.alloc(), words.as_slice(), &mut script, &mut report)
+}
+
+fn main(rt: HostRuntime) -> ExitCode {
+    let exit = run(&rt);
+    if !matches!(exit, Exit::Done) {
+        let line = Line(&exit);
+        let _ = eprintln!(rt; "{line}");
+    }
+    ExitCode::from(status_of(&exit))
+}

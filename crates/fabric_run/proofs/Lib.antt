@@ -1,0 +1,4 @@
+pub mod Cuts
+pub mod Endings
+pub mod Transfers
+pub mod Wishes
