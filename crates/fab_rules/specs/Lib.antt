@@ -1,0 +1,14 @@
+pub mod Lists
+pub mod Spelling
+pub mod Format
+pub mod Digests
+pub mod Statements
+pub mod Choice
+pub mod Shape
+pub mod Quoted
+pub mod Ledger
+pub mod Diary
+pub mod Rules
+pub mod World
+pub mod Safety
+pub mod Growth

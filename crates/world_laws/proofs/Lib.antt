@@ -1,0 +1,6 @@
+pub mod Votes
+pub mod Voting
+pub mod Prefixes
+pub mod Once
+pub mod Headline
+pub mod LoneWorld

@@ -1,0 +1,8 @@
+use Rattle.world_laws.proofs.Voting.{one_prepared, one_committed_in_view_zero}
+use Rattle.world_laws.proofs.agreement.view0_law.Goals as goal
+
+pub returns-clause-one_prepared : goal.returns-clause-one_prepared
+returns-clause-one_prepared c = λ w world honest few unforged stays. one_prepared w world honest few unforged
+
+pub returns-clause-one_committed : goal.returns-clause-one_committed
+returns-clause-one_committed c = one_committed_in_view_zero
