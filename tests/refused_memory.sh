@@ -1,0 +1,87 @@
+#!/usr/bin/env bash
+# Refuses each allocation of the program in turn, on the script of five requests: it has to end with status 10 and nothing written, or
+# with the right report. Outside the gate: it needs a C compiler, for the allocator that refuses.
+set -u
+top=$(cd "$(dirname "${BASH_SOURCE[0]}")/.." && pwd)
+work=$(mktemp -d)
+trap 'rm -rf "$work"' EXIT
+
+# An allocator in front of the C library's, whose call number REFUSE fails, counted from 1. It tells the number of calls at the end.
+cat >"$work/refuse.c" <<'C'
+#define _GNU_SOURCE
+#include <dlfcn.h>
+#include <errno.h>
+#include <stdio.h>
+#include <stdlib.h>
+
+static long calls, refuse;
+
+__attribute__((constructor)) static void start(void) {
+  const char *n = getenv("REFUSE");
+  refuse = n ? atol(n) : 0;
+  calls = 0;
+}
+
+__attribute__((destructor)) static void stop(void) {
+  const char *path = getenv("CALLS");
+  FILE *file = path ? fopen(path, "w") : NULL;
+  if (file) {
+    fprintf(file, "%ld\n", calls);
+    fclose(file);
+  }
+}
+
+static int refused(void) { return ++calls == refuse; }
+
+void *malloc(size_t size) {
+  static void *(*next)(size_t);
+  if (!next) next = dlsym(RTLD_NEXT, "malloc");
+  if (refused()) return errno = ENOMEM, NULL;
+  return next(size);
+}
+
+void *realloc(void *old, size_t size) {
+  static void *(*next)(void *, size_t);
+  if (!next) next = dlsym(RTLD_NEXT, "realloc");
+  if (refused()) return errno = ENOMEM, NULL;
+  return next(old, size);
+}
+
+int posix_memalign(void **to, size_t align, size_t size) {
+  static int (*next)(void **, size_t, size_t);
+  if (!next) next = dlsym(RTLD_NEXT, "posix_memalign");
+  if (refused()) return ENOMEM;
+  return next(to, align, size);
+}
+
+void *aligned_alloc(size_t align, size_t size) {
+  static void *(*next)(size_t, size_t);
+  if (!next) next = dlsym(RTLD_NEXT, "aligned_alloc");
+  if (refused()) return errno = ENOMEM, NULL;
+  return next(align, size);
+}
+C
+cc -O1 -shared -fPIC -o "$work/refuse.so" "$work/refuse.c" -ldl || exit 1
+
+passed=0
+failed=0
+for backend in llvm rattle; do
+  program=$("$top/tests/program.sh" "$backend") || exit 1
+  CALLS=$work/calls LD_PRELOAD=$work/refuse.so "$program" plain <"$top/examples/first_steps.script" >/dev/null
+  calls=$(cat "$work/calls")
+  for ((n = 1; n <= calls + 1; n++)); do
+    REFUSE=$n LD_PRELOAD=$work/refuse.so "$program" plain <"$top/examples/first_steps.script" >"$work/report" 2>"$work/error"
+    status=$?
+    if [ "$status" = 10 ] && [ ! -s "$work/report" ] && [ "$(cat "$work/error")" = "no memory" ]; then
+      passed=$((passed + 1))
+    elif [ "$status" = 0 ] && cmp -s "$work/report" "$top/examples/first_steps.report"; then
+      passed=$((passed + 1))
+    else
+      failed=$((failed + 1))
+      echo "failed: allocation $n refused, by $backend: status $status"
+    fi
+  done
+  echo "$calls allocations by $backend"
+done
+echo "$passed passed, $failed failed"
+[ "$failed" = 0 ]
