@@ -1,7 +1,7 @@
 //! What a replica answers to what it hears and to the calls that move it.
 use crate::ids::{Hash32, ReplicaId};
 use crate::messages::Message;
-use crate::rows::Rows;
+use fab_rows::Rows;
 
 /// What comes of a message that is heard.
 #[derive(Clone, Copy, Debug, Drop, PartialEq, Eq)]

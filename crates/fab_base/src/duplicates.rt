@@ -7,19 +7,7 @@ use crate::messages::{
     ViewChange, Vote,
 };
 use crate::requests::{Op, Outcome, Reply, Request};
-use crate::rows::{Bytes, Duplicate};
-
-impl Duplicate for u8 {
-    fn duplicate(&self) -> Result<u8, NoMemory> {
-        Ok(*self)
-    }
-}
-
-impl Duplicate for u64 {
-    fn duplicate(&self) -> Result<u64, NoMemory> {
-        Ok(*self)
-    }
-}
+use fab_rows::Duplicate;
 
 impl Duplicate for ReplicaId {
     fn duplicate(&self) -> Result<ReplicaId, NoMemory> {
@@ -54,12 +42,6 @@ impl Duplicate for Ask {
 impl Duplicate for Take {
     fn duplicate(&self) -> Result<Take, NoMemory> {
         Ok(*self)
-    }
-}
-
-impl Duplicate for (Bytes, Bytes) {
-    fn duplicate(&self) -> Result<(Bytes, Bytes), NoMemory> {
-        Ok((self.0.copy()?, self.1.copy()?))
     }
 }
 

@@ -19,11 +19,11 @@ mod messages;
 mod quorums;
 mod requests;
 mod roster;
-mod rows;
 #[cfg(test)]
 mod tests;
 
 pub use answers::{Answer, Item, Take, Targets};
+pub use fab_rows::{Bytes, Duplicate, Entries, NoMemory, Numbers, Rows};
 pub use ids::{ClientId, Hash32, ReplicaId, Who};
 pub use making::members;
 pub use messages::{
@@ -33,5 +33,3 @@ pub use messages::{
 pub use quorums::{faults, primary, quorum, quorum_law};
 pub use requests::{Batch, Op, Outcome, Outcomes, Reply, Request};
 pub use roster::{Contents, Members};
-pub use rows::{Bytes, Duplicate, Entries, Numbers, Rows};
-pub use std::alloc::AllocError as NoMemory;

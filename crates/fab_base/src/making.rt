@@ -4,7 +4,7 @@ ghost use Rattle.fab_base.specs.Limits.{IsWithinLimits};
 
 use crate::NoMemory;
 use crate::roster::Members;
-use crate::rows::Rows;
+use fab_rows::Rows;
 use std::alloc::Global;
 
 /// The members of a fabric: the size of each cluster, the home cluster of each client, the window, the checkpoint interval and the

@@ -4,7 +4,7 @@
 //! are those of the wire format.
 use crate::ids::{ClientId, Hash32, ReplicaId};
 use crate::requests::{Batch, Outcome, Request};
-use crate::rows::{Bytes, Rows};
+use fab_rows::{Bytes, Rows};
 
 /// The primary of a view proposes a batch for a slot (PBFT, pre-prepare).
 #[derive(Debug, Drop, PartialEq, Eq)]

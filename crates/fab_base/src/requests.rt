@@ -1,6 +1,6 @@
 //! What clients ask for, and what they are answered.
 use crate::ids::ClientId;
-use crate::rows::{Bytes, Rows};
+use fab_rows::{Bytes, Rows};
 
 /// An operation on the table (ours). A key has at most 32 bytes and a value at most 64.
 #[derive(Debug, Drop, PartialEq, Eq)]

@@ -3,7 +3,7 @@ ghost use Rattle.std.specs.Prelude.{◌≡◌, ◌<◌, ◌≤◌, length, IfOk,
 
 use crate::NoMemory;
 use crate::ids::{ClientId, Who};
-use crate::rows::Bytes;
+use fab_rows::Bytes;
 use std::alloc::Global;
 use std::marker::Model;
 use std::sync::Arc;

@@ -4,7 +4,7 @@ ghost use Rattle.std.specs.List.{list_any};
 ghost use Rattle.std.specs.Prelude.{nat_eq};
 
 use crate::devices::{Got, Sink, Source, Sunk};
-use fab_base::{Bytes, NoMemory, Numbers};
+use fab_rows::{Bytes, NoMemory, Numbers};
 use std::alloc::Global;
 use std::marker::Model;
 

@@ -1,6 +1,6 @@
 //! The devices, driven call by call.
 use crate::*;
-use fab_base::{Bytes, NoMemory, Numbers, Rows};
+use fab_rows::{Bytes, NoMemory, Numbers, Rows};
 use std::alloc::Global;
 use std::io::{self, Read, Write};
 use std::test::Fail;

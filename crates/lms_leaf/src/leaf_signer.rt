@@ -2,7 +2,7 @@
 
 ghost use Rattle.std.specs.Prelude.{◌≡◌};
 
-use fab_base::Bytes;
+use fab_rows::Bytes;
 use lms_tree::{Key, Public, SignFault, Signer, sign_leaf};
 use std::marker::Model;
 

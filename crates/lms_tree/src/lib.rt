@@ -33,7 +33,7 @@ mod spelling;
 mod tests;
 mod verifying;
 
-pub use fab_base::NoMemory;
+pub use fab_rows::NoMemory;
 pub use faults::SigFault;
 pub use heights::Height;
 pub use key::Key;

@@ -9,7 +9,7 @@ ghost use Rattle.lms_tree.specs.Keys.{TreeKey};
 use crate::heights::Height;
 use crate::key::Key;
 use crate::nodes::{inner_node, leaf_node};
-use fab_base::NoMemory;
+use fab_rows::NoMemory;
 use lmots_core::{OtsKind, OtsSeed, public_of};
 use std::alloc::Global;
 

@@ -7,7 +7,7 @@ ghost use Rattle.lms_tree.specs.declared.signers.SignFault.TheVariants.{KeySpent
 ghost use Rattle.lms_tree.specs.Verdict.{number_at, Valid};
 
 use crate::public::Public;
-use fab_base::Bytes;
+use fab_rows::Bytes;
 use std::alloc::AllocError;
 
 /// Why nothing was signed.

@@ -9,7 +9,7 @@ ghost use Rattle.lms_tree.specs.Verdict.{Valid};
 use crate::heights::Height;
 use crate::key::Key;
 use crate::paths::write_path;
-use fab_base::{Bytes, NoMemory};
+use fab_rows::{Bytes, NoMemory};
 use lmots_core::{OtsKind, OtsSeed, sign};
 use sha2::{Digest, Sha256};
 use std::alloc::Global;

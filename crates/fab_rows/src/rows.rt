@@ -3,6 +3,7 @@ ghost use Rattle.std.specs.Prelude.{◌≡◌, ◌↔◌, ◌++◌, [], ◌∷�
 ghost use Rattle.std.specs.Option.{option_copied};
 
 use crate::NoMemory;
+use crate::duplicate::Duplicate;
 use std::alloc::{AllocFailed, Global};
 use std::marker::Model;
 
@@ -21,15 +22,6 @@ pub type Numbers = Rows<u64>;
 
 /// A list of keys with their values.
 pub type Entries = Rows<(Bytes, Bytes)>;
-
-/// A type whose values can be copied exactly, at the price of memory. `Clone` says less: it may answer any value.
-pub trait Duplicate: Drop {
-    /// An equal value. It fails only where memory is refused.
-    fn duplicate(&self) -> Result<Self, NoMemory>
-    where
-        Self: Sized,
-        ensures { IfOk result (λ copy. copy ≡ self.now) };
-}
 
 impl<T> Model for Rows<T> {
     ghost use Rattle.std.specs.Prelude.{List};
@@ -106,10 +98,7 @@ impl<T: Duplicate> Rows<T> {
     pub fn copy(&self) -> Result<Rows<T>, NoMemory>
         ensures { IfOk result (λ rows. rows ≡ self.now) }
     {
-        let mut items = Vec::with_capacity(*self.items.allocator(), self.items.len())?;
-        for item in &self.items {
-            items.push(item.duplicate()?)?;
-        }
+        let items = T::duplicate_all(*self.items.allocator(), self.items.as_slice())?;
         Ok(Rows { items })
     }
 }

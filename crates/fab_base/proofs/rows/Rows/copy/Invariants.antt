@@ -1,6 +1,0 @@
--- what was copied so far
-use Rattle.std.proofs.Common.{◌≡◌, take}
-use Rattle.fab_base.proofs.rows.Rows.copy.Given as goal
-
-abbrev pub invariant-loop-item : goal.invariant-loop-item
-invariant-loop-item g l = l.items.items ≡ take l.item-index l.item-items

@@ -1,0 +1,6 @@
+-- what was copied so far
+use Rattle.std.proofs.Common.{◌≡◌, take}
+use Rattle.fab_rows.proofs.duplicate.Duplicate.duplicate_all.Given as goal
+
+abbrev pub invariant-loop-item : goal.invariant-loop-item
+invariant-loop-item g l = l.copies.items ≡ take l.item-index l.items
