@@ -14,6 +14,7 @@
 mod answers;
 mod duplicates;
 mod ids;
+mod limits;
 mod making;
 mod messages;
 mod quorums;
@@ -25,6 +26,11 @@ mod tests;
 pub use answers::{Answer, Item, Take, Targets};
 pub use fab_rows::{Bytes, Duplicate, Entries, NoMemory, Numbers, Rows};
 pub use ids::{ClientId, Hash32, ReplicaId, Who};
+pub use limits::{
+    GREATEST_COUNT, GREATEST_NUMBER, LONGEST_KEY, LONGEST_MESSAGE, LONGEST_SIGNATURE,
+    LONGEST_VALUE, MOST_CERTIFICATES, MOST_CLIENTS, MOST_CLUSTERS, MOST_MEMBERS, MOST_REPLICAS,
+    MOST_REQUESTS, MOST_SLOTS, MOST_STAMPS, MOST_STATEMENTS,
+};
 pub use making::members;
 pub use messages::{
     Ask, CommitCert, Message, NewView, Note, NoteLine, NoteLines, Plea, PrePrepare, PreparedCert,

@@ -3,6 +3,7 @@ ghost use Rattle.std.specs.Prelude.{◌≡◌, ◌<◌, ◌≤◌, length, IfOk,
 
 use crate::NoMemory;
 use crate::ids::{ClientId, Who};
+use crate::limits::{MOST_MEMBERS, MOST_REQUESTS, MOST_SLOTS};
 use fab_rows::Bytes;
 use std::alloc::Global;
 use std::marker::Model;
@@ -93,7 +94,7 @@ impl Members {
     pub fn size(&self, cluster: u8) -> u8
         requires { IsTrue (is_cluster self.now cluster) }
         ensures is { result ≡ size_of self.now cluster }
-        ensures limits { (1 ≤ result) × (result ≤ 10) }
+        ensures limits { (1 ≤ result) × (result ≤ MOST_MEMBERS) }
     {
         let contents = &*self.inner;
         contents.sizes.as_slice()[cluster as usize - 1]
@@ -127,7 +128,7 @@ impl Members {
     /// How many slots above the low mark are open at once: 1 to 16.
     pub fn window(&self) -> u8
         ensures is { result ≡ self.now.window }
-        ensures limits { (1 ≤ result) × (result ≤ 16) }
+        ensures limits { (1 ≤ result) × (result ≤ MOST_SLOTS) }
     {
         let contents = &*self.inner;
         contents.window
@@ -145,7 +146,7 @@ impl Members {
     /// The greatest number of requests of a batch: 1 to 8.
     pub fn batch(&self) -> u8
         ensures is { result ≡ self.now.batch }
-        ensures limits { (1 ≤ result) × (result ≤ 8) }
+        ensures limits { (1 ≤ result) × (result ≤ MOST_REQUESTS) }
     {
         let contents = &*self.inner;
         contents.batch
