@@ -1,4 +1,6 @@
+pub mod Bytes
 pub mod Correct
 pub mod Counting
 pub mod Entries
 pub mod Stamps
+pub mod Tests

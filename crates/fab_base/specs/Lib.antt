@@ -1,3 +1,4 @@
+pub mod Fields
 pub mod Limits
 pub mod Quorums
 pub mod Roster
