@@ -1,8 +1,9 @@
 pub mod Lists
 pub mod Parts
+pub mod Fitting
 pub mod Choices
 pub mod Digests
 pub mod Shapes
 pub mod Diaries
 pub mod Runs
-pub mod Growth
+pub mod Growing

@@ -15,19 +15,18 @@ use Rattle.fab_rules.specs.Statements.{statements_of, batches_of}
 use Rattle.fab_rules.specs.Shape.{IsShaped}
 use Rattle.fab_rules.specs.Diary.{Entry, Heard, Said, PrepareHeard, CommitHeard, QuorumHeard}
 use Rattle.fab_rules.specs.Rules.{MaySay, WholeRounds, IsHonest}
-use Rattle.fab_rules.specs.World.{member_of, IsWorld, AllHonest, is_faulty, FewFaulty, IsMade, Unforged, IsKnown, NoClash}
+use Rattle.world_laws.specs.World.{member_of, IsWorld, AllHonest, is_faulty, FewFaulty, IsMade, Unforged, IsKnown, NoClash}
 use Rattle.world_laws.specs.LoneWorld.{lone, only, lone_proposal, lone_vote, lone_block, lone_diary, lone_world}
+use Rattle.fab_base.specs.declared.limits.TheConstants.{LONGEST_MESSAGE}
+use Rattle.fab_base.proofs.Tests.{and_left, and_right, and_both, is_at_most}
 use Rattle.fab_rules.proofs.Digests.{length-batch_digest}
 
 -- ---- its messages are shaped
 
-le_true : (a b : ℕ) → a ≤ b → nat_le a b ≡ true
-le_true a b l = grind (arith, nat_tests)
-
 is_short : (front bytes back : List ℕ) → length front ≤ 100 → length bytes ≡ 32 → length back ≤ 100
-    → nat_le (length (front ++ (bytes ++ back))) 16777216 ≡ true
+    → nat_le (length (front ++ (bytes ++ back))) LONGEST_MESSAGE ≡ true
 is_short front bytes back few long end =
-    le_true (length (front ++ (bytes ++ back))) 16777216
+    is_at_most (length (front ++ (bytes ++ back))) LONGEST_MESSAGE
     (omega (arith, length-append front (bytes ++ back), length-append bytes back, long, few))
 
 -- the bytes of a vote in front of its digest
@@ -73,14 +72,6 @@ by_heard P commit prepare proposal m (inr (inr (inr (inr (inr (inr (inl e)))))))
 by_heard P commit prepare proposal m (inr (inr (inr (inr (inr (inr (inr h))))))) = absurd h
 
 -- ---- its one member
-
-and_left : (a b : Bool) → (a && b) ≡ true → a ≡ true
-and_left true b h = refl
-and_left false b h = cc
-
-and_right : (a b : Bool) → (a && b) ≡ true → b ≡ true
-and_right true b h = h
-and_right false b h = cc
 
 one_cluster : (c : ℕ) → is_cluster lone c ≡ true → c ≡ 1
 one_cluster c h = grind (arith, nat_tests)

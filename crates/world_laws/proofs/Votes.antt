@@ -16,7 +16,7 @@ use Rattle.fab_rules.specs.Lists.{In}
 use Rattle.fab_rules.specs.Digests.{batch_digest}
 use Rattle.fab_rules.specs.Quoted.{IsVoteFor, IsOlderCertificate, IsShownBy}
 use Rattle.fab_rules.specs.Diary.{Entry, Heard, Said, PrepareHeard, CommitHeard, QuorumHeard}
-use Rattle.fab_rules.specs.World.{World, member_of, IsCorrect, IsWorld, is_faulty, FewFaulty, Unforged, QuorumSaid}
+use Rattle.world_laws.specs.World.{World, member_of, IsCorrect, IsWorld, is_faulty, FewFaulty, Unforged, QuorumSaid}
 use Rattle.fab_rules.proofs.Lists.{of_map, of_filter, in_from_is_member}
 use Rattle.fab_rules.proofs.Parts.{part_is_statement, change_is_part, prepare_is_part}
 

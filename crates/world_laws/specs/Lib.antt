@@ -1,2 +1,4 @@
+pub mod World
+pub mod Safety
 pub mod Examples
 pub mod LoneWorld

@@ -1,6 +1,6 @@
 //! A world that the headline is about.
 ghost use Rattle.std.specs.Prelude.{◌≡◌, [], ◌∷◌};
-ghost use Rattle.fab_rules.specs.World.{IsWorld, AllHonest, FewFaulty, Unforged, NoClash, common_ledger};
+ghost use Rattle.world_laws.specs.World.{IsWorld, AllHonest, FewFaulty, Unforged, NoClash, common_ledger};
 ghost use Rattle.world_laws.specs.LoneWorld.{lone_world, lone_block};
 
 /// The premises of the headline can be met, and by a world that does something: a replica alone in its cluster orders the null batch.

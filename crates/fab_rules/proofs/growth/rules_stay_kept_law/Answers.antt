@@ -1,5 +1,5 @@
-use Rattle.fab_rules.proofs.Growth.{grown_by_heard, grown_by_done, may_say_grown, waiting_grown, fewer_waiting_grown}
-use Rattle.world_laws.proofs.growth.rules_stay_kept_law.Goals as goal
+use Rattle.fab_rules.proofs.Growing.{grown_by_heard, grown_by_done, may_say_grown, waiting_grown, fewer_waiting_grown}
+use Rattle.fab_rules.proofs.growth.rules_stay_kept_law.Goals as goal
 
 pub returns : goal.returns
 returns c = record {

@@ -14,7 +14,7 @@ use Rattle.fab_rules.specs.Lists.{In, IsPrefixOf}
 use Rattle.fab_rules.specs.Digests.{batch_digest}
 use Rattle.fab_rules.specs.Ledger.{RunBlock, run, lines_of, all_lines}
 use Rattle.fab_rules.specs.Diary.{ledger}
-use Rattle.fab_rules.specs.World.{World, IsCorrect, common_ledger, IsRepeated}
+use Rattle.world_laws.specs.World.{World, IsCorrect, common_ledger, IsRepeated}
 
 -- in a fabric of so many clusters the blocks, from place k of the ledger on, are those of rounds from 1, in each round the clusters in
 -- order
