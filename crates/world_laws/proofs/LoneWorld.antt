@@ -9,7 +9,7 @@ use Rattle.fab_base.specs.declared.messages.Vote.{Vote}
 use Rattle.fab_base.specs.declared.messages.Message.{Message}
 use Rattle.fab_rules.specs.Lists.{In}
 use Rattle.fab_rules.specs.Spelling.{spelling_of}
-use Rattle.fab_rules.specs.Format.{fits}
+use Rattle.fab_rules.specs.Format.{digest_fits, vote_fits, fits}
 use Rattle.fab_rules.specs.Digests.{batch_digest}
 use Rattle.fab_rules.specs.Statements.{statements_of, batches_of}
 use Rattle.fab_rules.specs.Shape.{IsShaped}
@@ -19,7 +19,7 @@ use Rattle.world_laws.specs.World.{member_of, IsWorld, AllHonest, is_faulty, Few
 use Rattle.world_laws.specs.LoneWorld.{lone, only, lone_proposal, lone_vote, lone_block, lone_diary, lone_world}
 use Rattle.fab_base.specs.declared.limits.TheConstants.{LONGEST_MESSAGE}
 use Rattle.fab_base.proofs.Tests.{and_left, and_right, and_both, is_at_most}
-use Rattle.fab_rules.proofs.Digests.{length-batch_digest}
+use Rattle.fab_rules.proofs.Digests.{length-batch_digest, batch_digest_fits}
 
 -- ---- its messages are shaped
 
@@ -33,13 +33,20 @@ is_short front bytes back few long end =
 abbrev vote_front : ℕ → List ℕ
 vote_front tag = 1 ∷ tag ∷ 1 ∷ 0 ∷ 0 ∷ 0 ∷ 0 ∷ 0 ∷ 0 ∷ 0 ∷ 0 ∷ 0 ∷ 0 ∷ 0 ∷ 0 ∷ 0 ∷ 0 ∷ 0 ∷ 0 ∷ 1 ∷ []
 
+vote_is_within : vote_fits lone_vote ≡ true
+vote_is_within = and_both (digest_fits (batch_digest [])) true (batch_digest_fits []) refl
+
 prepare_is_spelled : fits (Message.Prepare lone_vote) ≡ true
 unfolding spelling_of
-prepare_is_spelled = is_short (vote_front 3) (batch_digest []).bytes (0 ∷ 0 ∷ []) (omega arith) (length-batch_digest []) (omega arith)
+prepare_is_spelled =
+    and_both (vote_fits lone_vote) _ vote_is_within
+    (is_short (vote_front 3) (batch_digest []).bytes (0 ∷ 0 ∷ []) (omega arith) (length-batch_digest []) (omega arith))
 
 commit_is_spelled : fits (Message.Commit lone_vote) ≡ true
 unfolding spelling_of
-commit_is_spelled = is_short (vote_front 4) (batch_digest []).bytes (0 ∷ 0 ∷ []) (omega arith) (length-batch_digest []) (omega arith)
+commit_is_spelled =
+    and_both (vote_fits lone_vote) _ vote_is_within
+    (is_short (vote_front 4) (batch_digest []).bytes (0 ∷ 0 ∷ []) (omega arith) (length-batch_digest []) (omega arith))
 
 proposal_is_spelled : fits (Message.PrePrepare lone_proposal) ≡ true
 unfolding spelling_of
