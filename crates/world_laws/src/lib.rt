@@ -26,6 +26,7 @@ mod worlds;
 
 pub use agreement::{clusters_law, safety_law, view0_law};
 pub use examples::{
-    choice_examples, ledger_examples, misfit_examples, parts_examples, spelling_examples,
+    choice_examples, kinds_examples, ledger_examples, misfit_examples, null_digest_example,
+    parts_examples, refusal_examples, spelling_examples,
 };
 pub use worlds::world_example;
