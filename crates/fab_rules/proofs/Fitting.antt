@@ -1,5 +1,5 @@
 -- What a message within the ranges, counts and lengths tells of what stands in it.
-use Rattle.std.proofs.Common.{◌≡◌, ℕ, ◌≤◌, true, ◌&&◌, List, length, map, refl, sym, ap, ◌∙◌, inl, inr}
+use Rattle.std.proofs.Common.{◌≡◌, ◌≤◌, true, List, length, map, sym, ap, ◌∙◌, inl, inr}
 use Rattle.std.specs.List.{list_all}
 use Rattle.fab_base.specs.declared.limits.TheConstants.{LONGEST_MESSAGE, MOST_CERTIFICATES, MOST_REQUESTS, MOST_STATEMENTS}
 use Rattle.fab_base.specs.declared.requests.Request.{Request}

@@ -12,6 +12,7 @@ use Rattle.fab_rules.specs.Diary.{Entry, Heard, Said, Did, ledger, PrepareHeard,
 use Rattle.fab_rules.specs.Rules.{OneVote, IsOpenedFor, PrepareRule, CommitRule, ViewsRise, ChangeReports, PrimaryOnly, CheckpointRule, NoteRule, RemoteQuorum, MaySay, KeepsRules}
 use Rattle.fab_rules.specs.Growth.{HasGrown, after_saying}
 use Rattle.fab_rules.proofs.Lists.{prefix_refl}
+use Rattle.fab_rules.proofs.Saying.{said_is_not_heard}
 use Rattle.fab_rules.proofs.Runs.{in_longer_run}
 
 -- ---- growing
@@ -21,9 +22,6 @@ heard_is_not_said x y e = cc
 
 did_is_not_said : (x : Block) (y : Message) → Did x ≡ Said y → ⊥
 did_is_not_said x y e = cc
-
-said_is_not_heard : (x y : Message) → Said x ≡ Heard y → ⊥
-said_is_not_heard x y e = cc
 
 pub grown_by_nothing : (diary : List Entry) → HasGrown diary diary
 grown_by_nothing diary = record { heard = λ m h. h; said = λ m h. h; done = prefix_refl (ledger diary); first = λ c v x e. e }

@@ -6,4 +6,8 @@ pub mod Digests
 pub mod Shapes
 pub mod Diaries
 pub mod Runs
+pub mod Saying
+pub mod Chains
+pub mod Lengths
+pub mod Shares
 pub mod Growing

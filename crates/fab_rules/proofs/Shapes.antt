@@ -1,6 +1,6 @@
 -- What no misfit means: each fact of a shaped new view that the laws take.
 use Rattle.std.proofs.Common.{◌≡◌, ℕ, ◌+◌, ◌<◌, ◌≤◌, Bool, true, false, ◌&&◌, nat_eq, nat_lt, List, [], ◌∷◌, ◌++◌, length, map, inl, inr, refl, sym, ap, subst, ◌∙◌, arith, None}
-use Rattle.std.specs.List.{flat_map, list_all}
+use Rattle.std.specs.List.{flat_map}
 use Rattle.std.proofs.lemmas.List.{length-map}
 use Rattle.std.proofs.lemmas.Bool.Decides.{nat_tests}
 use Rattle.fab_base.specs.Limits.{Roster}
@@ -8,7 +8,6 @@ use Rattle.fab_base.specs.Digests.{same_digest}
 use Rattle.fab_base.specs.Quorums.{quorum_size, IsRisingFrom, IsQuorum}
 use Rattle.fab_base.specs.Roster.{is_cluster, is_replica, size_of}
 use Rattle.fab_base.specs.declared.ids.ReplicaId.{ReplicaId}
-use Rattle.fab_base.specs.declared.ids.Hash32.{Hash32}
 use Rattle.fab_base.specs.declared.messages.Vote.{Vote}
 use Rattle.fab_base.specs.declared.messages.PreparedCert.{PreparedCert}
 use Rattle.fab_base.specs.declared.messages.ViewChange.{ViewChange}
