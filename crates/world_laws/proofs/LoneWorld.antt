@@ -80,13 +80,13 @@ by_heard P commit prepare proposal m (inr (inr (inr (inr (inr (inr (inr h)))))))
 
 -- ---- its one member
 
-one_cluster : (c : ℕ) → is_cluster lone c ≡ true → c ≡ 1
+pub one_cluster : (c : ℕ) → is_cluster lone c ≡ true → c ≡ 1
 one_cluster c h = grind (arith, nat_tests)
 
 below_one : (k : ℕ) → nat_lt k 1 ≡ true → k ≡ 0
 below_one k h = grind (arith, nat_tests)
 
-is_only : (i : ReplicaId) → is_replica lone i ≡ true → only ≡ i
+pub is_only : (i : ReplicaId) → is_replica lone i ≡ true → only ≡ i
 is_only i h =
     let in_cluster : Bool = nat_lt i.index (size_of lone i.cluster) in
     let c = one_cluster i.cluster (and_left (is_cluster lone i.cluster) in_cluster h) in

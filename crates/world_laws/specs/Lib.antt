@@ -2,3 +2,4 @@ pub mod World
 pub mod Safety
 pub mod Examples
 pub mod LoneWorld
+pub mod BusyWorld

@@ -29,4 +29,4 @@ pub use examples::{
     choice_examples, kinds_examples, ledger_examples, misfit_examples, null_digest_example,
     parts_examples, refusal_examples, spelling_examples,
 };
-pub use worlds::world_example;
+pub use worlds::{busy_world_example, world_example};
