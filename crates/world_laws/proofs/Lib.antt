@@ -6,3 +6,4 @@ pub mod Headline
 pub mod LoneWorld
 pub mod Written
 pub mod BusyWorld
+pub mod PairWorld

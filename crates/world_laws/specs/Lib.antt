@@ -3,3 +3,4 @@ pub mod Safety
 pub mod Examples
 pub mod LoneWorld
 pub mod BusyWorld
+pub mod PairWorld

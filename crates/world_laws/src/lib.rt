@@ -8,9 +8,10 @@
 //! - `view0_law`: inside a cluster, while nobody leaves view 0.
 //! - `clusters_law`: across clusters, given that each cluster commits one batch in a slot.
 //! - `safety_law`: both, across view changes. This is the headline.
-//! - `world_example`: a world that meets the premises of the headline and has a block in its ledger.
-//! - `choice_examples`, `spelling_examples`, `parts_examples`, `misfit_examples`, `ledger_examples`: the definitions at work on small
-//!   cases.
+//! - `world_example`, `busy_world_example`, `pair_world_example`: worlds that meet the premises of the headline and have blocks in their
+//!   ledgers: a replica alone; one with a client, a reply, a checkpoint and a change of view; two clusters with a Share and pleas.
+//! - `choice_examples`, `spelling_examples`, `kinds_examples`, `null_digest_example`, `parts_examples`, `misfit_examples`,
+//!   `refusal_examples`, `ledger_examples`: the definitions at work on small cases.
 //!
 //! A law is a function without parameters and with an empty body: its contract is the law. The steps of the proof are lemmas under
 //! their names, in `proofs/`: `same_view`, `later_views` and `one_certificate` (`Voting`), `prefixes` (`Prefixes`), and what they
@@ -29,4 +30,4 @@ pub use examples::{
     choice_examples, kinds_examples, ledger_examples, misfit_examples, null_digest_example,
     parts_examples, refusal_examples, spelling_examples,
 };
-pub use worlds::{busy_world_example, world_example};
+pub use worlds::{busy_world_example, pair_world_example, world_example};

@@ -7,6 +7,7 @@ ghost use Rattle.fab_rules.specs.Diary.{Said};
 ghost use Rattle.world_laws.specs.World.{IsWorld, AllHonest, FewFaulty, Unforged, NoClash, IsRepeated, common_ledger};
 ghost use Rattle.world_laws.specs.LoneWorld.{only, lone_world, lone_block};
 ghost use Rattle.world_laws.specs.BusyWorld.{first_batch, second_batch, vote_for, first_block, first_lines, busy_world};
+ghost use Rattle.world_laws.specs.PairWorld.{null_block, pair_world};
 
 /// The premises of the headline can be met, and by a world that does something: a replica alone in its cluster orders the null batch.
 pub fn world_example()
@@ -30,4 +31,15 @@ pub fn busy_world_example()
     ensures ledger { common_ledger busy_world ≡ first_block ∷ [] }
     ensures repeated { IsRepeated busy_world 1 1 (batch_digest first_batch) first_lines }
     ensures carried_over { In (Said (Message.Prepare (vote_for 1 2 second_batch))) (busy_world.diary only) }
+{}
+
+/// The premises can be met by a world of two clusters: each is one replica, which orders the null batch, pleads for the other's
+/// certificate inside its cluster and to the other one, hears the other's plea and its Share, and does the blocks of round 1.
+pub fn pair_world_example()
+    ensures world { IsWorld pair_world }
+    ensures honest { AllHonest pair_world }
+    ensures few_faulty { FewFaulty pair_world }
+    ensures unforged { Unforged pair_world }
+    ensures no_clash { NoClash pair_world }
+    ensures ledger { common_ledger pair_world ≡ null_block 1 ∷ null_block 2 ∷ [] }
 {}
