@@ -6,6 +6,22 @@ use Rattle.fab_io.specs.declared.devices.Got.TheVariants.{Bytes, End, Failed as 
 use Rattle.fab_io.specs.declared.devices.Sunk.{Sunk}
 use Rattle.fab_io.specs.declared.devices.Sunk.TheVariants.{Wrote, Failed as WriteFailed}
 
+-- all that is seen of a source
+pub record Supply : Type 0 where
+  -- the bytes that it has left, where it tells them
+  pub left : Option (List ℕ)
+  -- how many bytes it gave, as far as a u64 goes
+  pub given : ℕ
+  -- how many of its reads failed, as far as a u64 goes
+  pub faults : ℕ
+
+-- all that is seen of a sink
+pub record Intake : Type 0 where
+  -- the bytes that it took, where it tells them
+  pub taken : Option (List ℕ)
+  -- how many of its writes failed, as far as a u64 goes
+  pub faults : ℕ
+
 -- a count rose by n, as far as a u64 goes
 abbrev pub RoseBy : ℕ → ℕ → ℕ → Type 0
 RoseBy old new n = (min (old + n) (2 ^ 64 - 1) ≤ new) × (new ≤ old + n)
@@ -32,6 +48,12 @@ CountsReadFaults old new (Bytes n) = old ≤ new
 CountsReadFaults old new End = old ≤ new
 CountsReadFaults old new ReadFailed = (old ≤ new) × Rose old new
 
+-- what one read does to a source
+pub record Reads (old new : Supply) (got : Got) (room : List ℕ) : Type 0 where
+  pub bytes : Gives old.left new.left got room
+  pub number : CountsGiven old.given new.given got
+  pub count : CountsReadFaults old.faults new.faults got
+
 -- what a write does to the bytes taken: they grow by the first ones of the piece, or stay
 abbrev pub Takes : Option (List ℕ) → Option (List ℕ) → Sunk → List ℕ → Type 0
 Takes old new (Wrote n) piece = (1 ≤ n) × (n ≤ length piece) × Appends old new (take n piece)
@@ -41,3 +63,8 @@ Takes old new WriteFailed piece = Keeps old new
 abbrev pub CountsWriteFaults : ℕ → ℕ → Sunk → Type 0
 CountsWriteFaults old new (Wrote n) = old ≤ new
 CountsWriteFaults old new WriteFailed = (old ≤ new) × Rose old new
+
+-- what one write does to a sink
+pub record Writes (old new : Intake) (sunk : Sunk) (piece : List ℕ) : Type 0 where
+  pub bytes : Takes old.taken new.taken sunk piece
+  pub count : CountsWriteFaults old.faults new.faults sunk

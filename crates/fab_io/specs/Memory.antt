@@ -1,6 +1,7 @@
 -- What the devices in memory do, exactly (ours).
-use Rattle.std.specs.Prelude.{ℕ, ◌-◌, min, nat_eq, List, [], ◌∷◌, length, if◌then◌else◌}
+use Rattle.std.specs.Prelude.{ℕ, ◌-◌, min, nat_eq, List, [], ◌∷◌, length, Some, if◌then◌else◌}
 use Rattle.std.specs.List.{list_any}
+use Rattle.fab_io.specs.Devices.{Supply, Intake}
 use Rattle.fab_io.specs.declared.devices.Got.{Got}
 use Rattle.fab_io.specs.declared.devices.Got.TheVariants.{Bytes, End, Failed as ReadFailed}
 use Rattle.fab_io.specs.declared.devices.Sunk.{Sunk}
@@ -35,6 +36,13 @@ pub record Store : Type 0 where
   pub piece : ℕ
   -- the numbers of the calls that fail, from 1
   pub failing : List ℕ
+
+-- what is seen of them as devices: they tell all their bytes
+abbrev pub seen_of_feed : Feed → Supply
+seen_of_feed feed = record { left = Some feed.left; given = feed.given; faults = feed.faults }
+
+abbrev pub seen_of_store : Store → Intake
+seen_of_store store = record { taken = Some store.taken; faults = store.faults }
 
 -- what a read of this much is answered where these bytes are left
 abbrev pub bytes_or_end : List ℕ → ℕ → Got

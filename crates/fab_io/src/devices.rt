@@ -1,6 +1,6 @@
 //! Where a program's bytes come from and where they go.
-ghost use Rattle.std.specs.Prelude.{ℕ, ◌<◌, List, length, Option};
-ghost use Rattle.fab_io.specs.Devices.{Gives, CountsGiven, CountsReadFaults, Takes, CountsWriteFaults};
+ghost use Rattle.std.specs.Prelude.{◌<◌, length};
+ghost use Rattle.fab_io.specs.Devices.{Supply, Intake, Reads, Writes};
 
 /// What a read came to.
 #[derive(Clone, Copy, Debug, Drop, PartialEq, Eq)]
@@ -24,37 +24,29 @@ pub enum Sunk {
 
 /// A source of bytes.
 ///
-/// Its meanings are the bytes that it has left, where it tells them; the number of bytes that it gave; and a count of faults that
-/// never falls. Both numbers stand still at the last value of a `u64`.
+/// What is seen of it is a `Supply`: the bytes that it has left, where it tells them; the number of bytes that it gave; and a count
+/// of faults that never falls. Both numbers stand still at the last value of a `u64`.
 pub trait Source {
-    ghost left: { Self → Option (List ℕ) };
+    ghost supply: { Self → Supply };
 
-    ghost given: { Self → ℕ };
-
-    ghost faults: { Self → ℕ };
-
-    /// Reads some bytes into the front of the room, which isn't empty. `End` comes only where nothing is left, where that is told,
-    /// and `Failed` only where the count of faults rose in this call or stands at its last value.
+    /// Reads some bytes into the front of the room, which isn't empty. `Bytes` gives the first ones left; `End` comes only where
+    /// nothing is left, where that is told; and `Failed` comes only where the count of faults rose in this call or stands at its last
+    /// value.
     fn read(&mut self, room: &mut [u8]) -> Got
         requires { 0 < length room.old }
-        ensures bytes { Gives (left self.old) (left self.new) result room.new }
-        ensures number { CountsGiven (given self.old) (given self.new) result }
-        ensures count { CountsReadFaults (faults self.old) (faults self.new) result };
+        ensures { Reads (supply self.old) (supply self.new) result room.new };
 }
 
 /// A sink of bytes.
 ///
-/// Its meanings are the bytes that it took, where it tells them, and a count of faults that never falls and stands still at the
-/// last value of a `u64`.
+/// What is seen of it is an `Intake`: the bytes that it took, where it tells them, and a count of faults that never falls and stands
+/// still at the last value of a `u64`.
 pub trait Sink {
-    ghost taken: { Self → Option (List ℕ) };
-
-    ghost faults: { Self → ℕ };
+    ghost intake: { Self → Intake };
 
     /// Takes some bytes of the front of the piece, which isn't empty. `Failed` comes only where the count of faults rose in this
-    /// call or stands at its last value.
+    /// call or stands at its last value, and then nothing was taken.
     fn write(&mut self, piece: &[u8]) -> Sunk
         requires { 0 < length piece.now }
-        ensures bytes { Takes (taken self.old) (taken self.new) result piece.now }
-        ensures count { CountsWriteFaults (faults self.old) (faults self.new) result };
+        ensures { Writes (intake self.old) (intake self.new) result piece.now };
 }

@@ -51,21 +51,14 @@ impl MemSource {
 }
 
 impl Source for MemSource {
-    ghost use Rattle.std.specs.Prelude.{Some};
-    ghost use Rattle.fab_io.specs.Devices.{Gives, CountsGiven, CountsReadFaults};
-    ghost use Rattle.fab_io.specs.Memory.{read_answer};
+    ghost use Rattle.fab_io.specs.Devices.{Reads};
+    ghost use Rattle.fab_io.specs.Memory.{seen_of_feed, read_answer};
 
-    ghost left = { λ s. Some s.left };
-
-    ghost given = { λ s. s.given };
-
-    ghost faults = { λ s. s.faults };
+    ghost supply = { seen_of_feed };
 
     fn read(&mut self, room: &mut [u8]) -> Got
         requires { 0 < length room.old }
-        ensures bytes { Gives (Some self.old.left) (Some self.new.left) result room.new }
-        ensures number { CountsGiven self.old.given self.new.given result }
-        ensures count { CountsReadFaults self.old.faults self.new.faults result }
+        ensures seen { Reads (seen_of_feed self.old) (seen_of_feed self.new) result room.new }
         ensures is { result ≡ read_answer self.old (length room.old) }
     {
         let fails = stands_in(&self.failing, self.next);
@@ -156,18 +149,14 @@ impl MemSink {
 }
 
 impl Sink for MemSink {
-    ghost use Rattle.std.specs.Prelude.{Some};
-    ghost use Rattle.fab_io.specs.Devices.{Takes, CountsWriteFaults};
-    ghost use Rattle.fab_io.specs.Memory.{write_answer};
+    ghost use Rattle.fab_io.specs.Devices.{Writes};
+    ghost use Rattle.fab_io.specs.Memory.{seen_of_store, write_answer};
 
-    ghost taken = { λ s. Some s.taken };
-
-    ghost faults = { λ s. s.faults };
+    ghost intake = { seen_of_store };
 
     fn write(&mut self, piece: &[u8]) -> Sunk
         requires { 0 < length piece.now }
-        ensures bytes { Takes (Some self.old.taken) (Some self.new.taken) result piece.now }
-        ensures count { CountsWriteFaults self.old.faults self.new.faults result }
+        ensures seen { Writes (seen_of_store self.old) (seen_of_store self.new) result piece.now }
         ensures is { result ≡ write_answer self.old (length piece.now) }
     {
         let fails = stands_in(&self.failing, self.next);

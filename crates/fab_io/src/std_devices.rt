@@ -27,11 +27,7 @@ impl<R: Read> ReadSource<R> {
 }
 
 impl<R: Read> Source for ReadSource<R> {
-    ghost left = { λ s. R.remaining s.reader };
-
-    ghost given = { λ s. s.given };
-
-    ghost faults = { λ s. s.faults };
+    ghost supply = { λ s. record { left = R.remaining s.reader; given = s.given; faults = s.faults } };
 
     fn read(&mut self, room: &mut [u8]) -> Got {
         match self.reader.read(room) {
@@ -66,9 +62,7 @@ impl<W: Write> WriteSink<W> {
 }
 
 impl<W: Write> Sink for WriteSink<W> {
-    ghost taken = { λ s. W.contents s.writer };
-
-    ghost faults = { λ s. s.faults };
+    ghost intake = { λ s. record { taken = W.contents s.writer; faults = s.faults } };
 
     fn write(&mut self, piece: &[u8]) -> Sunk {
         match self.writer.write(piece) {

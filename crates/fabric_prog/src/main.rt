@@ -31,19 +31,6 @@ impl Display for Line<'_> {
     }
 }
 
-/// The status that the program ends with.
-fn status_of(exit: &Exit) -> u8 {
-    match exit {
-        Exit::Done => 0,
-        Exit::Usage => 2,
-        Exit::ReadFault => 3,
-        Exit::WriteFault { written: _ } => 4,
-        Exit::TooLong => 5,
-        Exit::BadScript(_) => 6,
-        Exit::NoMemory => 10,
-    }
-}
-
 /// The exit of the top call over standard input and output.
 fn run(rt: &HostRuntime) -> Exit {
     let args = match env::args(rt) {
@@ -65,5 +52,5 @@ fn main(rt: HostRuntime) -> ExitCode {
         let line = Line(&exit);
         let _ = eprintln!(rt; "{line}");
     }
-    ExitCode::from(status_of(&exit))
+    ExitCode::from(exit.status())
 }

@@ -1,4 +1,3 @@
-pub mod Cuts
 pub mod Endings
+pub mod Limits
 pub mod Transfers
-pub mod Wishes

@@ -4,7 +4,10 @@ use Rattle.std.specs.Cmp.Lexicographic.{pointwise}
 use Rattle.fabric_run.specs.declared.command.Command.{Command}
 use Rattle.fabric_run.specs.declared.command.Command.TheVariants.{Plain}
 
+abbrev pub command_named : List ℕ → Option Command
+command_named word = if pointwise nat_eq word (codes "plain") then Some Plain else None
+
 abbrev pub command_of : List (List ℕ) → Option Command
 command_of [] = None
-command_of (word ∷ []) = if pointwise nat_eq word (codes "plain") then Some Plain else None
+command_of (word ∷ []) = command_named word
 command_of (word ∷ next ∷ rest) = None

@@ -1,6 +1,6 @@
 pub mod Commands
 pub mod Exits
 pub mod Plain
-pub mod Script
+pub mod Statuses
 pub mod Text
 pub mod Transfer

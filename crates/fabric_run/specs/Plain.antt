@@ -1,12 +1,13 @@
 -- What `plain` writes (ours): the meaning of a script when its requests are applied in its order, one after another.
-use Rattle.std.specs.Prelude.{List, [], ◌++◌, length, map, codes}
+use Rattle.std.specs.Prelude.{ℕ, List, [], ◌++◌, length, map, codes}
 use Rattle.fab_base.specs.declared.requests.Outcome.{Outcome}
 use Rattle.fab_base.specs.declared.requests.Request.{Request}
 use Rattle.fab_base.specs.Table.{State, empty_state, outcomes_of, state_after_all}
-use Rattle.fabric_run.specs.declared.reading.wishes.Script.{Script}
-use Rattle.fabric_run.specs.declared.reading.wishes.Wish.{Wish}
+use Rattle.fault_script.specs.declared.scripts.Script.{Script}
+use Rattle.fault_script.specs.declared.scripts.Wish.{Wish}
+use Rattle.fabric_run.specs.declared.exits.Exit.{Exit}
+use Rattle.fabric_run.specs.declared.exits.Exit.TheVariants.{Done}
 use Rattle.fabric_run.specs.Text.{reply_lines, table_text}
-use Rattle.std.specs.Prelude.{ℕ}
 
 -- a request, which `plain` leaves unsigned
 abbrev pub request_of : Wish → Request
@@ -30,4 +31,8 @@ plain_state script = state_after_all (start_of script) (requests_of script)
 -- a line for each request, the table, and the end
 abbrev pub plain_text : Script → List ℕ
 plain_text script =
-    reply_lines script.requests (plain_outcomes script) ++ table_text (plain_state script).entries ++ codes "end done\n"
+    reply_lines (requests_of script) (plain_outcomes script) ++ table_text (plain_state script).entries ++ codes "end done\n"
+
+-- what `plain` makes of a script
+abbrev pub plain_made : Script → Exit × List ℕ
+plain_made script = (Done, plain_text script)

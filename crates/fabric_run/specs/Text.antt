@@ -1,9 +1,10 @@
 -- The text of a report (ours). Each line ends with a line feed; numbers are decimal, keys and values stand as they are.
-use Rattle.std.specs.Prelude.{ℕ, List, [], ◌∷◌, ◌++◌, length, codes, decimal, flat_map}
+use Rattle.std.specs.Prelude.{ℕ, List, ◌++◌, length, codes, decimal, flat_map}
+use Rattle.std.specs.List.{zip}
 use Rattle.fab_base.specs.declared.requests.Outcome.{Outcome}
 use Rattle.fab_base.specs.declared.requests.Outcome.TheVariants.{Done, Again, Early}
 use Rattle.fab_base.specs.declared.requests.Reply.TheVariants.{Wrote, Found, Absent}
-use Rattle.fabric_run.specs.declared.reading.wishes.Wish.{Wish}
+use Rattle.fab_base.specs.declared.requests.Request.{Request}
 
 -- what a request came to
 abbrev pub outcome_text : Outcome → List ℕ
@@ -14,15 +15,13 @@ outcome_text Again = codes "again"
 outcome_text Early = codes "early"
 
 -- `reply CLIENT STAMP OUTCOME`
-abbrev pub reply_line : Wish → Outcome → List ℕ
-reply_line wish outcome =
-    codes "reply " ++ decimal wish.client.number ++ codes " " ++ decimal wish.stamp ++ codes " " ++ outcome_text outcome ++ codes "\n"
+abbrev pub reply_line : Request → Outcome → List ℕ
+reply_line request outcome =
+    codes "reply " ++ decimal request.client.number ++ codes " " ++ decimal request.stamp ++ codes " " ++ outcome_text outcome ++ codes "\n"
 
--- a line for each request
-abbrev pub reply_lines : List Wish → List Outcome → List ℕ
-reply_lines [] outcomes = []
-reply_lines (wish ∷ wishes) [] = []
-reply_lines (wish ∷ wishes) (outcome ∷ outcomes) = reply_line wish outcome ++ reply_lines wishes outcomes
+-- a line for each request, with what it came to
+abbrev pub reply_lines : List Request → List Outcome → List ℕ
+reply_lines requests outcomes = flat_map (λ pair. reply_line pair.0 pair.1) (zip requests outcomes)
 
 -- `entry KEY VALUE`
 abbrev pub entry_line : List ℕ × List ℕ → List ℕ

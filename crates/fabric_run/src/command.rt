@@ -1,6 +1,6 @@
 //! The words of a command.
 ghost use Rattle.std.specs.Prelude.{◌≡◌, map, string_bytes};
-ghost use Rattle.fabric_run.specs.Commands.{command_of};
+ghost use Rattle.fabric_run.specs.Commands.{command_named, command_of};
 
 /// What the program can be asked to do.
 #[derive(Clone, Copy, Debug, Drop, PartialEq, Eq)]
@@ -9,16 +9,22 @@ pub enum Command {
     Plain,
 }
 
+/// The command of a word, if it names one.
+fn command_named(word: &str) -> Option<Command>
+    ensures { result ≡ command_named word.now }
+{
+    match word {
+        "plain" => Some(Command::Plain),
+        _ => None,
+    }
+}
+
 /// The command that the words spell, if they spell one.
 pub(crate) fn command_of(words: &[String]) -> Option<Command>
     ensures { result ≡ command_of (map string_bytes words.now) }
 {
-    let [word] = words else {
-        return None;
-    };
-    if word.as_str() == "plain" {
-        Some(Command::Plain)
-    } else {
-        None
+    match words {
+        [word] => command_named(word.as_str()),
+        _ => None,
     }
 }

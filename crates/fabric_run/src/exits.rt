@@ -1,6 +1,8 @@
 //! How a run of the program ends.
-use crate::reading::BadScript;
-use std::alloc::AllocFailed;
+ghost use Rattle.std.specs.Prelude.{◌≡◌};
+ghost use Rattle.fabric_run.specs.Statuses.{status_of};
+
+use fault_script::BadScript;
 
 /// How a call of the program ends.
 #[derive(Clone, Copy, Debug, Drop, PartialEq, Eq)]
@@ -16,7 +18,7 @@ pub enum Exit {
         /// The sink took so many bytes of the report, from its front.
         written: u64,
     },
-    /// The script has more than 1,048,576 bytes. Nothing was written.
+    /// The script has more bytes than `SCRIPT_BYTES`. Nothing was written.
     TooLong,
     /// The script has a bad line. Nothing was written.
     BadScript(BadScript),
@@ -24,24 +26,19 @@ pub enum Exit {
     NoMemory,
 }
 
-impl<T: Drop> From<AllocFailed<T>> for Exit {
-    ghost use Rattle.std.specs.Prelude.{◌≡◌};
-    ghost use Rattle.fabric_run.specs.declared.exits.Exit.TheVariants.{NoMemory};
-
-    ghost from_gives = { λ refused exit. exit ≡ NoMemory };
-
-    fn from(_refused: AllocFailed<T>) -> Exit {
-        Exit::NoMemory
-    }
-}
-
-impl From<crate::NoMemory> for Exit {
-    ghost use Rattle.std.specs.Prelude.{◌≡◌};
-    ghost use Rattle.fabric_run.specs.declared.exits.Exit.TheVariants.{NoMemory};
-
-    ghost from_gives = { λ refused exit. exit ≡ NoMemory };
-
-    fn from(_refused: crate::NoMemory) -> Exit {
-        Exit::NoMemory
+impl Exit {
+    /// The status that the program ends with.
+    pub fn status(&self) -> u8
+        ensures { result ≡ status_of self.now }
+    {
+        match self {
+            Exit::Done => 0,
+            Exit::Usage => 2,
+            Exit::ReadFault => 3,
+            Exit::WriteFault { written: _ } => 4,
+            Exit::TooLong => 5,
+            Exit::BadScript(_) => 6,
+            Exit::NoMemory => 10,
+        }
     }
 }

@@ -2,39 +2,39 @@
 ghost use Rattle.std.specs.Prelude.{◌≡◌, ◌<◌, length, true, All, IfOk, OnOk};
 ghost use Rattle.fab_base.specs.Table.{outcomes_of, state_after_all};
 ghost use Rattle.seq_table.specs.Holding.{state_of, WritesShort};
-ghost use Rattle.fabric_run.specs.Script.{keeps_limits};
-ghost use Rattle.fabric_run.specs.Plain.{request_of, requests_of, plain_text};
-ghost use Rattle.fabric_run.specs.Exits.{Ends, IsPlainRun};
+ghost use Rattle.fault_script.specs.Scripts.{keeps_limits};
+ghost use Rattle.fabric_run.specs.Plain.{request_of, requests_of, plain_text, plain_made};
+ghost use Rattle.fabric_run.specs.Exits.{seen, Ends, IsRun};
 
-use crate::NoMemory;
 use crate::exits::Exit;
-use crate::reading::{Script, ScriptFault, Wish, read};
 use crate::text::{push_done, push_replies, push_table};
-use crate::transfer::{ReadStop, read_all, write_all};
-use fab_base::{Batch, Bytes, Duplicate, Outcomes, Request, Rows};
+use crate::transfer::{script_from, write_all};
+use fab_base::{Batch, Bytes, NoMemory, Outcomes, Request, Rows};
 use fab_io::{Sink, Source};
+use fault_script::{Script, Wish};
 use seq_table::{Table, table};
 use std::alloc::Global;
 
 /// The request that a script has a client make, unsigned.
-fn request_of(alloc: Global, wish: &Wish) -> Result<Request, NoMemory>
-    ensures { IfOk result (λ request. request ≡ request_of wish.now) }
+fn request_of(alloc: Global, wish: Wish) -> Request
+    ensures { result ≡ request_of wish }
 {
-    Ok(Request {
+    Request {
         client: wish.client,
         stamp: wish.stamp,
-        op: wish.op.duplicate()?,
+        op: wish.op,
         sig: Rows::new(alloc),
-    })
+    }
 }
 
 /// The requests of a script, in its order.
-fn requests_of(alloc: Global, script: &Script) -> Result<Batch, NoMemory>
-    ensures { IfOk result (λ requests. requests ≡ requests_of script.now) }
+fn requests_of(alloc: Global, script: Script) -> Result<Batch, NoMemory>
+    ensures { IfOk result (λ requests. requests ≡ requests_of script) }
 {
-    let mut requests = Vec::with_capacity(alloc, script.requests.len())?;
-    for wish in script.requests.as_slice() {
-        requests.push(request_of(alloc, wish)?)?;
+    let wishes = script.requests.into_vec();
+    let mut requests = Vec::with_capacity(alloc, wishes.len())?;
+    for wish in wishes {
+        requests.push(request_of(alloc, wish))?;
     }
     Ok(Rows::from_vec(requests))
 }
@@ -51,16 +51,16 @@ fn outcomes_of(table: &mut Table, requests: &Batch) -> Result<Outcomes, NoMemory
 }
 
 /// The text of a script: a line for each request, the table, and the end.
-fn text_of(alloc: Global, script: &Script) -> Result<Bytes, NoMemory>
-    requires { keeps_limits script.now ≡ true }
-    ensures { IfOk result (λ text. text ≡ plain_text script.now) }
+fn text_of(alloc: Global, script: Script) -> Result<Bytes, NoMemory>
+    requires { keeps_limits script ≡ true }
+    ensures { IfOk result (λ text. text ≡ plain_text script) }
 {
     let mut table = table(alloc, script.homes.len() as u8)?;
     let requests = requests_of(alloc, script)?;
     let outcomes = outcomes_of(&mut table, &requests)?;
     let entries = table.entries()?;
     let mut text = Vec::new(alloc);
-    push_replies(&mut text, script.requests.as_slice(), outcomes.as_slice())?;
+    push_replies(&mut text, requests.as_slice(), outcomes.as_slice())?;
     push_table(&mut text, entries.as_slice())?;
     push_done(&mut text)?;
     Ok(Rows::from_vec(text))
@@ -68,23 +68,13 @@ fn text_of(alloc: Global, script: &Script) -> Result<Bytes, NoMemory>
 
 /// What `plain` does.
 fn run<S: Source, K: Sink>(alloc: Global, script: &mut S, report: &mut K) -> Exit
-    ensures { Ends
-        (record { left = S.left script.old; given = S.given script.old; read_faults = S.faults script.old; taken = K.taken report.old; write_faults = K.faults report.old })
-        (record { left = S.left script.new; given = S.given script.new; read_faults = S.faults script.new; taken = K.taken report.new; write_faults = K.faults report.new })
-        result }
+    ensures { Ends plain_made (seen (S.supply script.old) (K.intake report.old)) (seen (S.supply script.new) (K.intake report.new)) result }
 {
-    let bytes = match read_all(alloc, script) {
-        Ok(bytes) => bytes,
-        Err(ReadStop::Fault) => return Exit::ReadFault,
-        Err(ReadStop::TooLong) => return Exit::TooLong,
-        Err(ReadStop::NoMemory) => return Exit::NoMemory,
-    };
-    let script = match read(alloc, bytes.as_slice()) {
+    let script = match script_from(alloc, script) {
         Ok(script) => script,
-        Err(ScriptFault::Bad(bad)) => return Exit::BadScript(bad),
-        Err(ScriptFault::NoMemory) => return Exit::NoMemory,
+        Err(exit) => return exit,
     };
-    let Ok(text) = text_of(alloc, &script) else {
+    let Ok(text) = text_of(alloc, script) else {
         return Exit::NoMemory;
     };
     match write_all(report, text.as_slice()) {
@@ -100,13 +90,10 @@ fn run<S: Source, K: Sink>(alloc: Global, script: &mut S, report: &mut K) -> Exi
 ///
 /// `Done` comes where all that was written. `ReadFault` and `WriteFault` come only where the device's count of faults rose in this
 /// call or stands at its last value; at a `WriteFault` the sink took the stated number of bytes of the text, from its front.
-/// `TooLong` comes exactly where the source gave byte 1,048,577. `BadScript` names the first bad line and its first cause.
-/// `NoMemory` comes only where memory is refused. But for `Done` and `WriteFault` nothing was written.
+/// `TooLong` comes exactly where the source gave one byte more than `SCRIPT_BYTES`. `BadScript` names the first bad line and its
+/// first cause. `NoMemory` comes only where memory is refused. But for `Done` and `WriteFault` nothing was written.
 pub fn plain<S: Source, K: Sink>(alloc: Global, script: &mut S, report: &mut K) -> Exit
-    ensures { IsPlainRun
-        (record { left = S.left script.old; given = S.given script.old; read_faults = S.faults script.old; taken = K.taken report.old; write_faults = K.faults report.old })
-        (record { left = S.left script.new; given = S.given script.new; read_faults = S.faults script.new; taken = K.taken report.new; write_faults = K.faults report.new })
-        result }
+    ensures { IsRun plain_made (seen (S.supply script.old) (K.intake report.old)) (seen (S.supply script.new) (K.intake report.new)) result }
 {
     run(alloc, script, report)
 }

@@ -2,9 +2,7 @@
 ghost use Rattle.std.specs.Prelude.{◌≡◌, ◌++◌, codes, decimal, length, IfOk, OnOk};
 ghost use Rattle.fabric_run.specs.Text.{outcome_text, reply_line, reply_lines, entry_line, entry_lines, table_text};
 
-use crate::NoMemory;
-use crate::reading::Wish;
-use fab_base::{Bytes, Outcome, Reply};
+use fab_base::{Bytes, NoMemory, Outcome, Reply, Request};
 use itoa::Buffer;
 
 /// Adds bytes.
@@ -40,35 +38,28 @@ fn push_outcome(text: &mut Vec<u8>, outcome: &Outcome) -> Result<(), NoMemory>
 }
 
 /// Adds the line of a reply.
-fn push_reply(text: &mut Vec<u8>, wish: &Wish, outcome: &Outcome) -> Result<(), NoMemory>
-    ensures { OnOk result (text.new.items ≡ text.old.items ++ reply_line wish.now outcome.now) }
+fn push_reply(text: &mut Vec<u8>, request: &Request, outcome: &Outcome) -> Result<(), NoMemory>
+    ensures { OnOk result (text.new.items ≡ text.old.items ++ reply_line request.now outcome.now) }
 {
     push_bytes(text, b"reply ")?;
-    push_number(text, wish.client.number as u64)?;
+    push_number(text, request.client.number as u64)?;
     push_bytes(text, b" ")?;
-    push_number(text, wish.stamp as u64)?;
+    push_number(text, request.stamp as u64)?;
     push_bytes(text, b" ")?;
     push_outcome(text, outcome)?;
     push_bytes(text, b"\n")
 }
 
-/// Adds the lines of the replies.
+/// Adds a line for each request, with what it came to.
 pub(crate) fn push_replies(
     text: &mut Vec<u8>,
-    wishes: &[Wish],
+    requests: &[Request],
     outcomes: &[Outcome],
 ) -> Result<(), NoMemory>
-    ensures { OnOk result (text.new.items ≡ text.old.items ++ reply_lines wishes.now outcomes.now) }
+    ensures { OnOk result (text.new.items ≡ text.old.items ++ reply_lines requests.now outcomes.now) }
 {
-    let mut wishes = wishes;
-    let mut outcomes = outcomes;
-    while let [wish, more_wishes @ ..] = wishes {
-        let [outcome, more_outcomes @ ..] = outcomes else {
-            break;
-        };
-        push_reply(text, wish, outcome)?;
-        wishes = more_wishes;
-        outcomes = more_outcomes;
+    for (request, outcome) in requests.iter().zip(outcomes) {
+        push_reply(text, request, outcome)?;
     }
     Ok(())
 }

@@ -1,7 +1,8 @@
 //! The top call.
 ghost use Rattle.std.specs.Prelude.{◌≡◌, ◌↔◌, map, string_bytes, Some, None};
 ghost use Rattle.fabric_run.specs.Commands.{command_of};
-ghost use Rattle.fabric_run.specs.Exits.{IsPlainRun};
+ghost use Rattle.fabric_run.specs.Plain.{plain_made};
+ghost use Rattle.fabric_run.specs.Exits.{seen, IsRun};
 
 use crate::command::{Command, command_of};
 use crate::exits::Exit;
@@ -20,10 +21,8 @@ pub fn fabric<S: Source, K: Sink>(
 ) -> Exit
     ensures usage { (result ≡ Exit.Usage) ↔ (command_of (map string_bytes words.now) ≡ None) }
     ensures untouched { result ≡ Exit.Usage → (script.new ≡ script.old) × (report.new ≡ report.old) }
-    ensures plain { command_of (map string_bytes words.now) ≡ Some Command.Plain → IsPlainRun
-        (record { left = S.left script.old; given = S.given script.old; read_faults = S.faults script.old; taken = K.taken report.old; write_faults = K.faults report.old })
-        (record { left = S.left script.new; given = S.given script.new; read_faults = S.faults script.new; taken = K.taken report.new; write_faults = K.faults report.new })
-        result }
+    ensures plain { command_of (map string_bytes words.now) ≡ Some Command.Plain → IsRun plain_made
+        (seen (S.supply script.old) (K.intake report.old)) (seen (S.supply script.new) (K.intake report.new)) result }
 {
     match command_of(words) {
         None => Exit::Usage,

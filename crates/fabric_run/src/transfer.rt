@@ -1,11 +1,13 @@
-//! Moving bytes: the whole of a source into memory, and the whole of a text to a sink.
-ghost use Rattle.std.specs.Prelude.{◌≡◌, ℕ, ◌+◌, ◌<◌, ◌≤◌, List, length, take, IfOk, OnErr, IfErr};
-ghost use Rattle.std.specs.Io.KnownBytes.{Keeps, Appends, IsAtEnd};
-ghost use Rattle.fab_io.specs.Devices.{Rose};
-ghost use Rattle.fabric_run.specs.Transfer.{GaveBytes, ReadEnds, WriteEnds};
+//! Moving bytes: the whole of a source into memory and into a script, and the whole of a text to a sink.
+ghost use Rattle.std.specs.Prelude.{◌≡◌, true, IfOk, IfErr};
+ghost use Rattle.fault_script.specs.Scripts.{keeps_limits};
+ghost use Rattle.fabric_run.specs.Transfer.{ReadEnds, WriteEnds};
+ghost use Rattle.fabric_run.specs.Exits.{GaveScript, Stops};
 
+use crate::exits::Exit;
 use fab_base::{Bytes, Rows};
 use fab_io::{Got, Sink, Source, Sunk};
+use fault_script::{Script, ScriptFault, read};
 use std::alloc::Global;
 
 /// The most bytes of a script.
@@ -16,7 +18,7 @@ const ROOM: usize = 4_096;
 
 /// Why a source isn't read to its end.
 #[derive(Clone, Copy, Debug, Drop, PartialEq, Eq)]
-pub(crate) enum ReadStop {
+enum ReadStop {
     /// A read failed.
     Fault,
     /// It gave more bytes than a script may have.
@@ -26,8 +28,8 @@ pub(crate) enum ReadStop {
 }
 
 /// All bytes that a source has left, at most those of a script.
-pub(crate) fn read_all<S: Source>(alloc: Global, source: &mut S) -> Result<Bytes, ReadStop>
-    ensures { ReadEnds (S.left source.old) (S.left source.new) (S.given source.old) (S.given source.new) (S.faults source.old) (S.faults source.new) result }
+fn read_all<S: Source>(alloc: Global, source: &mut S) -> Result<Bytes, ReadStop>
+    ensures { ReadEnds (S.supply source.old) (S.supply source.new) result }
 {
     let mut bytes = Vec::new(alloc);
     let mut room = [0u8; ROOM];
@@ -47,9 +49,28 @@ pub(crate) fn read_all<S: Source>(alloc: Global, source: &mut S) -> Result<Bytes
     }
 }
 
+/// The script that a source gives, or the exit where it gives none.
+pub(crate) fn script_from<S: Source>(alloc: Global, source: &mut S) -> Result<Script, Exit>
+    ensures script { IfOk result (λ script. GaveScript (S.supply source.old) (S.supply source.new) script) }
+    ensures limits { IfOk result (λ script. keeps_limits script ≡ true) }
+    ensures stops { IfErr result (λ exit. Stops (S.supply source.old) (S.supply source.new) exit) }
+{
+    let bytes = match read_all(alloc, source) {
+        Ok(bytes) => bytes,
+        Err(ReadStop::Fault) => return Err(Exit::ReadFault),
+        Err(ReadStop::TooLong) => return Err(Exit::TooLong),
+        Err(ReadStop::NoMemory) => return Err(Exit::NoMemory),
+    };
+    match read(alloc, bytes.as_slice()) {
+        Ok(script) => Ok(script),
+        Err(ScriptFault::Bad(bad)) => Err(Exit::BadScript(bad)),
+        Err(ScriptFault::NoMemory) => Err(Exit::NoMemory),
+    }
+}
+
 /// Hands a whole text to a sink. `Err` comes where a write fails, with the number of bytes that the sink took.
 pub(crate) fn write_all<K: Sink>(sink: &mut K, text: &[u8]) -> Result<(), usize>
-    ensures { WriteEnds (K.taken sink.old) (K.taken sink.new) (K.faults sink.old) (K.faults sink.new) text.now result }
+    ensures { WriteEnds (K.intake sink.old) (K.intake sink.new) text.now result }
 {
     let mut written = 0;
     while written < text.len() {

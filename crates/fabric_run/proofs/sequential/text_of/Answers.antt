@@ -2,14 +2,14 @@ use Rattle.std.proofs.Common.{◌<◌, All, length, sym, subst, rules}
 use Rattle.std.specs.Prelude.{List}
 use Rattle.fab_base.specs.declared.requests.Request.{Request}
 use Rattle.seq_table.specs.Holding.{WritesShort}
-use Rattle.fabric_run.proofs.Wishes.{requests_declared, requests_short}
+use Rattle.fabric_run.proofs.Limits.{requests_declared, requests_short}
 use Rattle.fabric_run.proofs.sequential.text_of.Goals as goal
 
 pub outcomes_of-requires-clause-clients : goal.outcomes_of-requires-clause-clients
 outcomes_of-requires-clause-clients c =
     subst (λ (l : List Request). All (λ (r : Request). r.client.number < length c.in_ok-table.table.stamps) l) (sym c.in_ok-requests.ensures)
-    (requests_declared c.args.script.now (length c.in_ok-table.table.stamps) (search rules) c.requires)
+    (requests_declared c.args.script (length c.in_ok-table.table.stamps) (search rules) c.requires)
 
 pub outcomes_of-requires-clause-short : goal.outcomes_of-requires-clause-short
 outcomes_of-requires-clause-short c =
-    subst (λ (l : List Request). All (λ (r : Request). WritesShort r.op) l) (sym c.in_ok-requests.ensures) (requests_short c.args.script.now c.requires)
+    subst (λ (l : List Request). All (λ (r : Request). WritesShort r.op) l) (sym c.in_ok-requests.ensures) (requests_short c.args.script c.requires)

@@ -1,10 +1,7 @@
 -- the text so far and the lines of the replies to come are the whole
-use Rattle.std.proofs.Common.{◌≡◌, ◌++◌, length}
+use Rattle.std.proofs.Common.{◌≡◌, ◌++◌}
 use Rattle.fabric_run.specs.Text.{reply_lines}
 use Rattle.fabric_run.proofs.text.push_replies.Given as goal
 
-abbrev pub invariant-loop-wishes : goal.invariant-loop-wishes
-invariant-loop-wishes l = l.text.items ++ reply_lines l.wishes l.outcomes ≡ l.initial.text.items ++ reply_lines l.initial.wishes l.initial.outcomes
-
-abbrev pub decreases-loop-wishes : goal.decreases-loop-wishes
-decreases-loop-wishes l = length l.wishes
+abbrev pub invariant-loop-request : goal.invariant-loop-request
+invariant-loop-request l = l.text.items ++ reply_lines l.request-iterator.a.rest.now l.request-iterator.b.rest.now ≡ l.initial.text.items ++ reply_lines l.requests l.outcomes

@@ -1,0 +1,6 @@
+pub mod Checks
+pub mod Drafts
+pub mod Fields
+pub mod Lines
+pub mod Scripts
+pub mod Words

@@ -1,0 +1,50 @@
+-- What the bytes of a script mean (ours): the script that they spell, or the first line that is bad and its first cause.
+use Rattle.std.specs.Prelude.{ℕ, ◌+◌, ◌&&◌, Bool, nat_le, nat_lt, List, [], ◌∷◌, length, Result, Ok, Err}
+use Rattle.std.specs.List.{list_all}
+use Rattle.std.specs.Str.Lines.{lines}
+use Rattle.fab_base.specs.declared.limits.TheConstants.{MOST_CLIENTS}
+use Rattle.fab_base.specs.Fields.{op_fits}
+use Rattle.fault_script.specs.declared.faults.Why.{Why}
+use Rattle.fault_script.specs.declared.faults.BadScript.{BadScript}
+use Rattle.fault_script.specs.declared.faults.ScriptFault.{ScriptFault}
+use Rattle.fault_script.specs.declared.scripts.Script.{Script}
+use Rattle.fault_script.specs.declared.scripts.Wish.{Wish}
+use Rattle.fault_script.specs.Drafts.{Draft, empty_draft}
+use Rattle.fault_script.specs.Lines.{line}
+
+-- goes on from a good line, or ends at a bad one of this number
+abbrev pub after_line : ℕ → Result Draft Why → (Draft → Result Draft BadScript) → Result Draft BadScript
+after_line n (Ok draft) f = f draft
+after_line n (Err why) f = Err (record { line = n; why = why })
+
+-- the lines, of which the first has this number
+abbrev pub draft_of_lines : ℕ → Draft → List (List ℕ) → Result Draft BadScript
+draft_of_lines n draft [] = Ok draft
+draft_of_lines n draft (text ∷ rest) = after_line n (line draft text) (λ next. draft_of_lines (n + 1) next rest)
+
+-- what the lines declare in the end
+abbrev pub script_made : Draft → Script
+script_made draft = record { sizes = draft.sizes; homes = draft.homes; requests = draft.wishes }
+
+abbrev pub script_read : Result Draft BadScript → Result Script BadScript
+script_read (Ok draft) = Ok (script_made draft)
+script_read (Err bad) = Err bad
+
+-- the script that the bytes spell, or the first bad line
+abbrev pub script_of : List ℕ → Result Script BadScript
+script_of bytes = script_read (draft_of_lines 1 empty_draft (lines bytes))
+
+-- what is to hold of a bad line, where that is the fault
+abbrev pub IsBad : ScriptFault → (BadScript → Type 0) → Type 0
+IsBad (ScriptFault.Bad bad) P = P bad
+IsBad ScriptFault.NoMemory P = Unit {0}
+
+-- ---- the limits that a script keeps
+
+-- a request of one of so many clients, whose key and values fit their fields
+abbrev pub is_wish : ℕ → Wish → Bool
+is_wish clients wish = nat_lt wish.client.number clients && op_fits wish.op
+
+-- whether there are no more clients than there may be, and each request is one of theirs and fits
+abbrev pub keeps_limits : Script → Bool
+keeps_limits script = nat_le (length script.homes) MOST_CLIENTS && list_all (is_wish (length script.homes)) script.requests

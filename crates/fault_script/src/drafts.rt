@@ -1,0 +1,143 @@
+//! What the lines of a script so far declare.
+ghost use Rattle.std.specs.Prelude.{◌≡◌, ◌<◌, ◌≤◌, length, true, IfOk};
+ghost use Rattle.fab_base.specs.Fields.{op_fits};
+ghost use Rattle.fault_script.specs.Checks.{Leaves};
+ghost use Rattle.fault_script.specs.Drafts.{empty_draft, declared_cluster, declared_client, with_cluster, with_client, with_request};
+ghost use Rattle.fault_script.specs.Scripts.{script_made, keeps_limits};
+
+use crate::faults::{LineFault, Why};
+use crate::fields::number;
+use crate::scripts::{Script, Wish};
+use fab_base::{Bytes, ClientId, MOST_CLIENTS, MOST_STAMPS, NoMemory, Op, Rows};
+use std::alloc::Global;
+use std::marker::Model;
+
+/// What the lines so far declare.
+#[derive(Drop)]
+pub(crate) struct Draft {
+    sizes: Vec<u8>,
+    homes: Vec<u8>,
+    stamps: Vec<u32>,
+    wishes: Vec<Wish>,
+}
+
+impl Model for Draft {
+    ghost use Rattle.std.specs.Prelude.{◌≡◌, ◌≤◌, length, true};
+    ghost use Rattle.std.specs.List.{list_all};
+    ghost use Rattle.fab_base.specs.declared.limits.TheConstants.{MOST_CLUSTERS, MOST_CLIENTS};
+    ghost use Rattle.fault_script.specs.Drafts.{Draft};
+    ghost use Rattle.fault_script.specs.Scripts.{is_wish};
+
+    ghost Value = { Draft };
+
+    ghost view = { λ d. record { sizes = d.sizes.items; homes = d.homes.items; stamps = d.stamps.items; wishes = d.wishes.items } };
+
+    ghost invariant = { λ d. (length d.sizes.items ≤ MOST_CLUSTERS) × (length d.stamps.items ≡ length d.homes.items) × (length d.homes.items ≤ MOST_CLIENTS) × (list_all (is_wish (length d.homes.items)) d.wishes.items ≡ true) };
+}
+
+impl Draft {
+    /// Nothing is declared.
+    pub(crate) fn new(alloc: Global) -> Draft
+        ensures { result ≡ empty_draft }
+    {
+        Draft {
+            sizes: Vec::new(alloc),
+            homes: Vec::new(alloc),
+            stamps: Vec::new(alloc),
+            wishes: Vec::new(alloc),
+        }
+    }
+
+    /// A copy of the bytes, in the draft's memory.
+    pub(crate) fn bytes(&self, word: &[u8]) -> Result<Bytes, NoMemory>
+        ensures { IfOk result (λ bytes. bytes ≡ word.now) }
+    {
+        Ok(Rows::from_vec(word.to_vec(*self.homes.allocator())?))
+    }
+
+    /// A cluster that is declared.
+    pub(crate) fn declared_cluster(&self, word: &[u8]) -> Result<u8, Why>
+        ensures { result ≡ declared_cluster self.now word.now }
+    {
+        let n = number(word)?;
+        if n >= 1 && n <= self.sizes.len() as u64 {
+            Ok(n as u8)
+        } else {
+            Err(Why::Unknown)
+        }
+    }
+
+    /// A client that is declared.
+    pub(crate) fn declared_client(&self, word: &[u8]) -> Result<u8, Why>
+        ensures { result ≡ declared_client self.now word.now }
+    {
+        let n = number(word)?;
+        if n < self.homes.len() as u64 {
+            Ok(n as u8)
+        } else {
+            Err(Why::Unknown)
+        }
+    }
+
+    /// One cluster more, of so many replicas.
+    pub(crate) fn add_cluster(&mut self, size: u8) -> Result<(), LineFault>
+        ensures { Leaves result self.new (with_cluster self.old size) }
+    {
+        if !self.sizes.is_empty() {
+            return Err(LineFault::Bad(Why::TooMany));
+        }
+        self.sizes.push(size)?;
+        Ok(())
+    }
+
+    /// One client more, of this cluster.
+    pub(crate) fn add_client(&mut self, home: u8) -> Result<(), LineFault>
+        ensures { Leaves result self.new (with_client self.old home) }
+    {
+        if self.homes.len() >= MOST_CLIENTS as usize {
+            return Err(LineFault::Bad(Why::TooMany));
+        }
+        self.homes.reserve(1)?;
+        self.stamps.push(0)?;
+        self.homes.push(home).unwrap();
+        Ok(())
+    }
+
+    /// One request more of this client.
+    pub(crate) fn add_request(&mut self, client: u8, op: Op) -> Result<(), LineFault>
+        requires declared { client < length self.old.homes }
+        requires within { op_fits op ≡ true }
+        ensures { Leaves result self.new (with_request self.old client op) }
+    {
+        let last = self.stamps[client as usize];
+        if last >= MOST_STAMPS {
+            return Err(LineFault::Bad(Why::TooMany));
+        }
+        let stamp = last + 1;
+        self.wishes.push(Wish {
+            client: ClientId { number: client },
+            stamp,
+            op,
+        })?;
+        self.stamps[client as usize] = stamp;
+        Ok(())
+    }
+
+    /// The script that is declared.
+    pub(crate) fn finish(self) -> Script
+        ensures is { result ≡ script_made self }
+        ensures within { keeps_limits result ≡ true }
+    {
+        let Draft {
+            sizes,
+            homes,
+            stamps: _,
+            wishes,
+        } = self;
+        Script {
+            sizes: Rows::from_vec(sizes),
+            homes: Rows::from_vec(homes),
+            requests: Rows::from_vec(wishes),
+        }
+    }
+}

@@ -1,0 +1,23 @@
+//! The reader of scripts: from bytes to what they declare, or to the first bad line and its first cause.
+//!
+//! A script is a text of lines, each a few words between spaces: `cluster 4`, `client 1`, `request 0 put KEY VALUE`. [`read`] takes
+//! one apart. Each step has a module, and a file of `specs/` that says what it means: `words` (the words of a line), `fields` (numbers,
+//! keys, values), `drafts` (what the lines so far declare), `lines` (each kind of line) and `scripts` with `reading` (a whole script).
+//! Read the files of `specs/` in this order; a function of the reader answers the word of its own name there. `Checks` joins them: one
+//! check after another, of which the first that fails names its cause.
+//!
+//! How much a script may declare is bounded by constants of `fab_base`: `MOST_MEMBERS` replicas of a cluster, `MOST_CLIENTS` clients,
+//! `MOST_STAMPS` requests of each, keys of `LONGEST_KEY` bytes and values of `LONGEST_VALUE`.
+#![tactic(auto)]
+
+mod drafts;
+mod faults;
+mod fields;
+mod lines;
+mod reading;
+mod scripts;
+mod words;
+
+pub use faults::{BadScript, ScriptFault, Why};
+pub use reading::read;
+pub use scripts::{Script, Wish, Wishes};
