@@ -6,3 +6,4 @@ pub mod Numbers
 pub mod Readers
 pub mod Statements
 pub mod Unique
+pub mod Whole

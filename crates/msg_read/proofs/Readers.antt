@@ -92,7 +92,7 @@ module _ {X Y : Type 0} {spell : X → List ℕ} {spell' : X → Y → List ℕ}
         let same : a.0.1.bytes ≡ at.bytes = ap (λ (n : At). n.bytes) t1.0.next_is in
         let t2 = (s a.0.0 t1.1).takes a.0.1 b.0.0 b.0.1 (subst AreBytes (sym same) bytes) t1.0.inside b.1 in
         let pair : (X × Y) × At = ((a.0.0, b.0.0), b.0.1) in
-        subst (λ (y : (X × Y) × At). Taken at (spell y.0.0 ++ spell' y.0.0 y.0.1) y.1 × ((good y.0.0 && good' y.0.0 y.0.1) ≡ true))
+        subst (λ (y : (X × Y) × At). Taken at (spell y.0.0 ++ spell' y.0.0 y.0.1) y.1 × ((good y.0.0 && good' y.0.0 y.0.1) ≡ true)) {x = pair}
         (ok_is pair (p, behind) b.2)
         (both_taken at a.0.1 b.0.1 (spell a.0.0) (spell' a.0.0 b.0.0) t1.0 t2.0, and_both (good a.0.0) (good' a.0.0 b.0.0) t1.1 t2.1);
   }

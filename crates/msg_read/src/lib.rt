@@ -11,17 +11,18 @@
 //! most, so time and memory grow as the length of the bytes.
 //!
 //! Modules: `decoding` has the call, `laws` the law, `cursor` where reading stands and the fields, `listed` the one loop that reads
-//! every list, `requests`, `votes`, `changes` and `notes` the kinds, `opening` the choice among them.
+//! every list, `requests`, `votes`, `changes` and `notes` the kinds, `kinds` the choice among them.
 #![tactic(auto)]
 
 mod changes;
 mod cursor;
 mod decoding;
 mod faults;
+mod kinds;
 mod laws;
 mod listed;
 mod notes;
-mod opening;
+
 mod requests;
 mod votes;
 
