@@ -1,0 +1,4 @@
+pub mod Chains
+pub mod Lengths
+pub mod Saying
+pub mod Shares

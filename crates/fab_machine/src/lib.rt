@@ -1,0 +1,2 @@
+//! The machine of a replica.
+#![tactic(auto)]
