@@ -2,3 +2,13 @@ pub mod Chains
 pub mod Lengths
 pub mod Saying
 pub mod Shares
+pub mod Members
+pub mod Shaped
+pub mod Shaping
+pub mod Values
+pub mod Lists
+pub mod Slots
+pub mod Windows
+pub mod Noting
+pub mod Waiting
+pub mod Reporting
