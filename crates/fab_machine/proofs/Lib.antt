@@ -12,3 +12,10 @@ pub mod Windows
 pub mod Noting
 pub mod Waiting
 pub mod Reporting
+pub mod MoreHeard
+pub mod Locals
+pub mod Quorums
+pub mod Putting
+pub mod Certifying
+pub mod Telling
+pub mod Hearing

@@ -3,13 +3,14 @@ use Rattle.std.proofs.Common.{◌≡◌, ◌≢◌, ℕ, zero, suc, ◌<◌, ◌
 use Rattle.std.specs.List.{slice_get}
 use Rattle.std.specs.Option.{IsSome}
 use Rattle.std.proofs.lemmas.Bool.{cases_eq}
+use Rattle.fab_base.specs.declared.requests.Request.{Request}
 use Rattle.fab_base.specs.declared.messages.Vote.{Vote}
 use Rattle.fab_base.specs.declared.messages.PreparedCert.{PreparedCert}
 use Rattle.fab_base.specs.declared.messages.Message.{Message}
 use Rattle.fab_base.specs.declared.answers.Take.{Take}
 use Rattle.pbft_slots.specs.Window.{Window, place_in, proposal_at, prepared_at}
 use Rattle.pbft_slots.proofs.Places.{place_by, is_place}
-use Rattle.fab_machine.specs.State.{Local}
+use Rattle.fab_machine.specs.State.{Proposed, Local}
 use Rattle.fab_machine.specs.Voting.{with_certificate}
 use Rattle.fab_machine.specs.Relation.{IsPast, certificate_by, IsCovered, IsNoted}
 use Rattle.fab_machine.proofs.Lists.{get_set_same, get_set_within, get_set_other}
@@ -26,6 +27,19 @@ places_differ w s t p q e f other same =
     let a = is_place w.low (length w.slots) s p e in
     let b = is_place w.low (length w.slots) t q f in
     other (omega (arith, a.is, b.is, same))
+
+-- ---- a change beside the view, its slots and its certificates
+
+pub noted_beside : (l : Local) (next : ℕ) (proposed : List Proposed) (waiting : List Request) (last : List ℕ) (executed : ℕ) (kept : List Message) (m : Message)
+    → l.next ≤ next → l.executed ≤ executed → IsNoted l m
+    → IsNoted (record l { next = next; proposed = proposed; waiting = waiting; last = last; executed = executed; kept = kept }) m
+noted_beside l next proposed waiting last executed kept (Message.PrePrepare p) later more (inl old) = inl old
+noted_beside l next proposed waiting last executed kept (Message.PrePrepare p) later more (inr h) = inr (h.0, omega (arith, h.1, later))
+noted_beside l next proposed waiting last executed kept (Message.Prepare v) later more h = h
+noted_beside l next proposed waiting last executed kept (Message.Commit v) later more h = record { past = h.past; covered = h.covered }
+noted_beside l next proposed waiting last executed kept (Message.ViewChange c) later more h = h
+noted_beside l next proposed waiting last executed kept (Message.ReplyNote n) later more h = omega (arith, h, more)
+noted_beside l next proposed waiting last executed kept m later more h = tt
 
 -- ---- more was heard
 

@@ -46,7 +46,7 @@ sender_of : (d : Hash32) (o : Option (Counted Vote)) → is_for d o ≡ true →
 sender_of d None h = cc
 sender_of d (Some c) h = (c, refl, is_same_digest c.digest d h)
 
-is_sender : (votes : List (Option (Counted Vote))) (d : Hash32) (k : ℕ) → In k (senders_for votes d) → IsSender votes d k
+pub is_sender : (votes : List (Option (Counted Vote))) (d : Hash32) (k : ℕ) → In k (senders_for votes d) → IsSender votes d k
 unfolding senders_for
 is_sender votes d k h =
     let c = sender_of d (value_of votes k) (in_filter (λ s. is_for d (value_of votes s)) (length votes) k (contains_from_in (senders_for votes d) k h)).1 in
