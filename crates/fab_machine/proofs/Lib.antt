@@ -19,3 +19,8 @@ pub mod Putting
 pub mod Certifying
 pub mod Telling
 pub mod Hearing
+pub mod Proposing
+pub mod Stepping
+pub mod Blocks
+pub mod Stamps
+pub mod Executing
