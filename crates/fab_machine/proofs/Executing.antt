@@ -1,7 +1,7 @@
 -- Execute keeps the relation: the blocks of the round may be done, its note may be said, and local ordering is told of it.
-use Rattle.std.proofs.Common.{◌≡◌, ℕ, ◌+◌, ◌-◌, ◌*◌, ◌<◌, ◌≤◌, Bool, true, cond, ◌&&◌, nat_le, List, [], ◌∷◌, ◌++◌, length, Option, Some, None, Result, Ok, Err, inl, inr, refl, sym, ap, subst, ◌∙◌, arith, length-append}
-use Rattle.std.specs.Prelude.{slice_index, drop}
-use Rattle.std.specs.List.{list_all, slice_get}
+use Rattle.std.proofs.Common.{◌≡◌, ℕ, ◌+◌, ◌-◌, ◌*◌, ◌≤◌, true, cond, ◌&&◌, nat_le, List, [], ◌∷◌, ◌++◌, length, Option, Some, None, Result, Ok, Err, inl, inr, refl, sym, ap, subst, ◌∙◌, arith, length-append}
+use Rattle.std.specs.Prelude.{drop}
+use Rattle.std.specs.List.{slice_get}
 use Rattle.std.proofs.Math.Seq.{drop-append_seam, drop-length}
 use Rattle.fab_base.specs.declared.limits.TheConstants.{GREATEST_NUMBER}
 use Rattle.fab_base.specs.Limits.{Roster}
@@ -17,21 +17,21 @@ use Rattle.fab_base.proofs.Tests.{and_both, is_at_most}
 use Rattle.fab_rules.specs.declared.blocks.Block.{Block}
 use Rattle.fab_rules.specs.Lists.{In}
 use Rattle.fab_rules.specs.Digests.{batch_digest}
-use Rattle.fab_rules.specs.Format.{batch_fits, line_fits}
+use Rattle.fab_rules.specs.Format.{batch_fits}
 use Rattle.fab_rules.specs.Shape.{IsShaped}
-use Rattle.fab_rules.specs.Ledger.{RunBlock, run_from, run, lines_of, start_of, state_after_blocks}
+use Rattle.fab_rules.specs.Ledger.{RunBlock, run_from, run, start_of, state_after_blocks}
 use Rattle.fab_rules.specs.Diary.{Entry, Heard, Said, ledger, CommitHeard, VoteOf}
 use Rattle.fab_rules.specs.Rules.{KeepsRules, MaySay}
 use Rattle.fab_rules.specs.Growth.{after_saying}
 use Rattle.fab_rules.proofs.Growing.{waiting_grown, waiting_has_grown, rules_before}
 use Rattle.fab_rules.proofs.Fitting.{few_requests, each_request_fits}
-use Rattle.fab_machine.specs.State.{Local, Rounds, Replica, wanted}
+use Rattle.fab_machine.specs.State.{Local, Replica, wanted}
 use Rattle.fab_machine.specs.Items.{statements_by, statements_in}
 use Rattle.fab_machine.specs.Serving.{stamps_after, still_waiting, still_proposed, served}
 use Rattle.fab_machine.specs.Rounds.{round_of, next_round, with_round, has_block, place_of}
-use Rattle.fab_machine.specs.Step.{Event, Stepped, note_of, note_item, after_noting, own_block, execute_step}
+use Rattle.fab_machine.specs.Step.{Event, note_of, note_item, after_noting, own_block, execute_step}
 use Rattle.fab_machine.specs.Diaries.{diary_did, diary_after}
-use Rattle.fab_machine.specs.Relation.{IsBatchKnown, AreLocal, IsBacked, AreRounds, full_of, AreFacts, AreRelated}
+use Rattle.fab_machine.specs.Relation.{IsBatchKnown, AreLocal, IsBacked, full_of, AreFacts, AreRelated}
 use Rattle.fab_machine.proofs.Lists.{in_at, get_behind}
 use Rattle.fab_machine.proofs.Members.{IsMember}
 use Rattle.fab_machine.proofs.Saying.{heard_before, still_heard, ledger-after_saying, after_saying-both}
@@ -44,7 +44,7 @@ use Rattle.fab_machine.proofs.MoreHeard.{hears_later, backed_more}
 use Rattle.fab_machine.proofs.Locals.{local_beside, local_said, local_grown, note_quotes}
 use Rattle.fab_machine.proofs.Telling.{own}
 use Rattle.fab_machine.proofs.Stepping.{put_last, wait_more}
-use Rattle.fab_machine.proofs.Blocks.{AreBlocks, block_at, some_certificate, AreDone, blocks_done, grown_by_blocks, ledger-diary_did, heard_before_blocks, block_known}
+use Rattle.fab_machine.proofs.Blocks.{AreBlocks, block_at, some_certificate, blocks_done, grown_by_blocks, ledger-diary_did, heard_before_blocks, block_known}
 use Rattle.fab_machine.proofs.Stamps.{round_stamps}
 
 -- ---- the blocks are done

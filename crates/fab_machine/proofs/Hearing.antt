@@ -27,7 +27,7 @@ use Rattle.pbft_slots.specs.Slots.{proposal_answer, first_proposal, with_proposa
 use Rattle.pbft_slots.specs.Window.{Window, high, refusal_by, place_in, slot_at, proposal_at, prepared_at, pre_prepare_answer, prepare_answer, commit_answer, answer_by, after_pre_prepare, after_prepare, after_commit}
 use Rattle.pbft_slots.proofs.Places.{slot_here, slot_is_open, place_far, place_open}
 use Rattle.fab_machine.specs.State.{Local, wanted, wanted_by}
-use Rattle.fab_machine.specs.Items.{member_of, vote_of}
+use Rattle.fab_machine.specs.Items.{vote_of}
 use Rattle.fab_machine.specs.Voting.{vote_refusal, kept_by, refused, after_count, outs_after, prepare_told, commit_told, proposal_told, prepare_by, commit_by, proposal_by, hear_prepare, hear_commit, hear_proposal}
 use Rattle.fab_machine.specs.Requests.{request_answer, waiting_by, hear_request}
 use Rattle.fab_machine.specs.Step.{hear}

@@ -1,8 +1,8 @@
 -- What the limits of a fabric say of one of its replicas.
-use Rattle.std.proofs.Common.{◌≡◌, ℕ, ◌-◌, ◌<◌, ◌≤◌, Bool, true, ◌&&◌, nat_le, nat_lt, arith, length}
+use Rattle.std.proofs.Common.{◌≡◌, ℕ, ◌-◌, ◌<◌, ◌≤◌, true, nat_le, arith, length}
 use Rattle.std.specs.Bool.{IsTrue}
 use Rattle.std.proofs.lemmas.List.Elements.{All-get_or}
-use Rattle.fab_base.specs.declared.limits.TheConstants.{MOST_CLUSTERS, MOST_MEMBERS, MOST_REQUESTS}
+use Rattle.fab_base.specs.declared.limits.TheConstants.{MOST_MEMBERS, MOST_REQUESTS}
 use Rattle.fab_base.specs.Limits.{Roster, IsWithinLimits}
 use Rattle.fab_base.specs.Roster.{is_cluster, is_replica, size_of}
 use Rattle.fab_base.specs.declared.ids.ReplicaId.{ReplicaId}

@@ -1,5 +1,5 @@
 -- What was heard before is heard after: so what rests on it alone stays.
-use Rattle.std.proofs.Common.{◌≡◌, ℕ, List, ◌∷◌, Option, inl, inr}
+use Rattle.std.proofs.Common.{ℕ, List, ◌∷◌, Option, inl, inr}
 use Rattle.fab_base.specs.Limits.{Roster}
 use Rattle.fab_base.specs.declared.ids.ReplicaId.{ReplicaId}
 use Rattle.fab_base.specs.declared.requests.Request.{Request}
@@ -8,7 +8,7 @@ use Rattle.fab_base.specs.declared.messages.PreparedCert.{PreparedCert}
 use Rattle.fab_base.specs.declared.messages.CommitCert.{CommitCert}
 use Rattle.fab_base.specs.declared.messages.Message.{Message}
 use Rattle.fab_rules.specs.Lists.{In}
-use Rattle.fab_rules.specs.Diary.{Entry, Heard, Said}
+use Rattle.fab_rules.specs.Diary.{Entry, Heard}
 use Rattle.pbft_slots.specs.Window.{Window}
 use Rattle.fab_machine.specs.Relation.{IsBatchKnown, AreHeld, AreReported, IsQuoting, IsBacked}
 

@@ -1,5 +1,5 @@
 -- Batch and Nudge keep the relation of local ordering.
-use Rattle.std.proofs.Common.{◌≡◌, ℕ, ◌+◌, ◌%◌, ◌<◌, ◌≤◌, Bool, true, false, not, cond, nat_lt, ◌||◌, List, [], ◌∷◌, ◌++◌, length, take, Option, Some, None, ◌⊎◌, inl, inr, refl, subst, arith}
+use Rattle.std.proofs.Common.{◌≡◌, ℕ, ◌+◌, ◌%◌, ◌<◌, ◌≤◌, Bool, true, false, not, cond, nat_lt, ◌||◌, List, [], ◌∷◌, ◌++◌, length, take, Option, Some, None, ◌⊎◌, inl, inr, refl, arith}
 use Rattle.std.specs.Bool.{IsTrue}
 use Rattle.std.proofs.lemmas.Bool.Decides.{nat_tests}
 use Rattle.std.proofs.lemmas.List.{length-take}
@@ -17,7 +17,7 @@ use Rattle.fab_rules.specs.Rules.{KeepsRules, MaySay}
 use Rattle.pbft_slots.specs.Window.{high}
 use Rattle.fab_machine.specs.State.{Local}
 use Rattle.fab_machine.specs.Items.{proposal_of}
-use Rattle.fab_machine.specs.Voting.{Told, unmoved}
+use Rattle.fab_machine.specs.Voting.{unmoved}
 use Rattle.fab_machine.specs.Proposing.{eligible, proposed, is_due, propose_in, propose}
 use Rattle.fab_machine.specs.Relation.{AreLocal}
 use Rattle.fab_machine.proofs.Members.{IsMember}

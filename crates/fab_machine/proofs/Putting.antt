@@ -1,6 +1,6 @@
 -- The votes that a replica puts: each may be said after all that waits, and is noted.
-use Rattle.std.proofs.Common.{◌≡◌, ℕ, ◌<◌, ◌≤◌, List, ◌∷◌, Option, Some, None, is_some, inl, inr, refl, ap, subst, ◌∙◌, arith}
-use Rattle.std.specs.Option.{IsSome, option_and_then}
+use Rattle.std.proofs.Common.{◌≡◌, ℕ, ◌<◌, ◌≤◌, List, ◌∷◌, Some, None, is_some, inl, inr, refl, ap, subst, ◌∙◌, arith}
+use Rattle.std.specs.Option.{IsSome}
 use Rattle.fab_base.specs.declared.limits.TheConstants.{GREATEST_NUMBER}
 use Rattle.fab_base.specs.Limits.{Roster}
 use Rattle.fab_base.specs.declared.ids.ReplicaId.{ReplicaId}
@@ -14,7 +14,6 @@ use Rattle.fab_rules.specs.Digests.{batch_digest}
 use Rattle.fab_rules.specs.Diary.{Entry, Heard, Said}
 use Rattle.fab_rules.specs.Rules.{MaySay}
 use Rattle.fab_rules.proofs.Digests.{batch_digest_fits}
-use Rattle.vote_certs.specs.Counting.{value_of}
 use Rattle.pbft_slots.specs.Window.{place_in, proposal_at, prepared_at}
 use Rattle.pbft_slots.proofs.Agreement.{quorum_counted}
 use Rattle.fab_machine.specs.State.{Local, wanted, wanted_by}

@@ -13,7 +13,7 @@ use Rattle.fab_rules.specs.declared.misfits.Misfit.{Misfit}
 use Rattle.fab_rules.specs.Lists.{In}
 use Rattle.fab_rules.specs.Format.{request_fits, batch_fits}
 use Rattle.fab_rules.specs.Statements.{signer_of, parts_of, statements_of, batches_of}
-use Rattle.fab_rules.specs.Shape.{is_known, is_view, is_slot, is_vote, is_batch_of, is_primary, keeps_shape, certificate_misfits, unless, numbered, stranger_at, misfits_at, misfits, IsShaped}
+use Rattle.fab_rules.specs.Shape.{is_known, is_view, is_slot, is_vote, is_batch_of, keeps_shape, certificate_misfits, unless, numbered, stranger_at, misfits_at, misfits, IsShaped}
 use Rattle.fab_rules.proofs.Lists.{of_filter}
 use Rattle.fab_rules.proofs.Fitting.{fields_are, each_batch_fits}
 

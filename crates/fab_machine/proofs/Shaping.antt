@@ -1,5 +1,5 @@
 -- What a replica puts is shaped.
-use Rattle.std.proofs.Common.{◌≡◌, ℕ, ◌≤◌, ◌<◌, ◌^◌, Bool, true, ◌&&◌, nat_le, nat_lt, nat_eq, List, [], ◌∷◌, length, map, inl, inr, refl, sym, subst, arith}
+use Rattle.std.proofs.Common.{◌≡◌, ℕ, ◌≤◌, ◌^◌, true, ◌&&◌, nat_le, nat_eq, List, [], ◌∷◌, length, map, inl, inr, refl, subst, arith}
 use Rattle.std.specs.Bool.{IsTrue}
 use Rattle.std.specs.List.{list_all}
 use Rattle.fab_base.specs.declared.limits.TheConstants.{GREATEST_NUMBER, MOST_REQUESTS}
@@ -9,7 +9,6 @@ use Rattle.fab_base.specs.declared.ids.ReplicaId.{ReplicaId}
 use Rattle.fab_base.specs.declared.ids.Hash32.{Hash32}
 use Rattle.fab_base.specs.declared.requests.Outcome.{Outcome}
 use Rattle.fab_base.specs.declared.requests.Request.{Request}
-use Rattle.fab_base.specs.declared.messages.NoteLine.{NoteLine}
 use Rattle.fab_base.specs.declared.messages.Message.{Message}
 use Rattle.fab_base.proofs.Tests.{and_both, is_at_most, is_below, are_same}
 use Rattle.fab_rules.specs.Lists.{In}

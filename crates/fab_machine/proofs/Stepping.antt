@@ -1,5 +1,5 @@
 -- A step as a whole: what is heard joins the diary, what local ordering brings about joins the state, and what is sent leaves it.
-use Rattle.std.proofs.Common.{◌≡◌, ℕ, ◌*◌, ◌%◌, ◌≤◌, Bool, true, false, cond, nat_le, List, [], ◌∷◌, ◌++◌, length, Option, Some, None, ◌⊎◌, inl, inr, refl, sym, ap, subst, ◌∙◌}
+use Rattle.std.proofs.Common.{◌≡◌, ℕ, ◌*◌, ◌%◌, List, [], ◌∷◌, ◌++◌, length, ◌⊎◌, inl, inr, refl, sym, ap, subst, ◌∙◌}
 use Rattle.std.specs.Prelude.{slice_index}
 use Rattle.std.proofs.Math.Nat.{mul-mod_left}
 use Rattle.std.proofs.lemmas.List.{append-nil}
@@ -11,21 +11,19 @@ use Rattle.fab_base.specs.declared.messages.Message.{Message}
 use Rattle.fab_base.specs.declared.answers.Item.{Item}
 use Rattle.fab_base.specs.declared.answers.Take.{Take}
 use Rattle.fab_rules.specs.Lists.{In}
-use Rattle.fab_rules.specs.Digests.{batch_digest}
-use Rattle.fab_base.specs.Digests.{same_digest}
 use Rattle.fab_rules.specs.Shape.{IsShaped}
 use Rattle.fab_rules.specs.Diary.{Entry, Heard, ledger}
 use Rattle.fab_rules.specs.Rules.{IsHonest}
 use Rattle.fab_rules.specs.Growth.{after_saying}
 use Rattle.fab_rules.proofs.Lists.{in_append_cases}
 use Rattle.fab_rules.proofs.Growing.{grown_by_heard, rules_before, waiting_grown, waiting_has_grown}
-use Rattle.fab_machine.specs.State.{Local, Rounds, Replica, wanted}
+use Rattle.fab_machine.specs.State.{Replica, wanted}
 use Rattle.fab_machine.specs.Items.{statements_by, statements_in}
 use Rattle.fab_machine.specs.Voting.{Told}
-use Rattle.fab_machine.specs.Rounds.{round_of, certificate_for, kept_answer, keep_answer, kept_after, keep}
+use Rattle.fab_machine.specs.Rounds.{keep_answer, kept_after}
 use Rattle.fab_machine.specs.Step.{after_out, after_outs, after_told, hear, emit_step}
 use Rattle.fab_machine.specs.Diaries.{diary_sent}
-use Rattle.fab_machine.specs.Relation.{AreLocal, IsBacked, AreRounds, full_of, IsOfView, Wait, AreFacts, AreRelated, after_puts, IsTold}
+use Rattle.fab_machine.specs.Relation.{IsBacked, AreRounds, full_of, IsOfView, Wait, AreFacts, AreRelated, after_puts, IsTold}
 use Rattle.fab_machine.specs.declared.outs.Out.{Out}
 use Rattle.fab_machine.proofs.Members.{IsMember}
 use Rattle.fab_machine.proofs.Saying.{same_heard, heard_before, still_heard, ledger-after_saying, after_saying-both}

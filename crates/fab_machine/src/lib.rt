@@ -23,6 +23,8 @@
 //! state has what they will need of the view and of the low mark.
 #![tactic(auto)]
 
+mod laws;
 mod outs;
 
+pub use laws::{local_law, step_law};
 pub use outs::{Out, Outs};
