@@ -5,6 +5,9 @@
 //! both words, in `Format` and `Shape`).
 #![tactic(auto)]
 
+mod check;
+mod rolls;
 mod shaped;
 
+pub use check::Check;
 pub use shaped::Shaped;
