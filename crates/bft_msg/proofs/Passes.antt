@@ -6,18 +6,11 @@ use Rattle.fab_base.specs.declared.messages.Message.{Message}
 use Rattle.fab_rules.specs.Lists.{first_of}
 use Rattle.fab_rules.specs.Shape.{numbered}
 use Rattle.bft_msg.specs.Passing.{Passes}
+use Rattle.bft_msg.proofs.Alls.{all_left, all_right}
 
 first_stays : {F : Type 0} (xs ys : List F) (x : F) → first_of xs ≡ Some x → first_of (xs ++ ys) ≡ Some x
 first_stays [] ys x e = absurd cc
 first_stays (z ∷ xs) ys x e = e
-
-pub all_left : {X : Type 0} (P : X → Type 0) (xs ys : List X) → AllByRecursion P (xs ++ ys) → AllByRecursion P xs
-all_left P [] ys h = tt
-all_left P (x ∷ xs) ys h = (h.0, all_left P xs ys h.1)
-
-pub all_right : {X : Type 0} (P : X → Type 0) (xs ys : List X) → AllByRecursion P (xs ++ ys) → AllByRecursion P ys
-all_right P [] ys h = h
-all_right P (x ∷ xs) ys h = all_right P xs ys h.1
 
 -- ---- two lists
 

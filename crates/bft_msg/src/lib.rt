@@ -8,6 +8,8 @@
 mod check;
 mod rolls;
 mod shaped;
+mod walking;
 
 pub use check::Check;
 pub use shaped::Shaped;
+pub use walking::walk;

@@ -1,5 +1,6 @@
 use Rattle.std.proofs.lemmas.Result.{err_from_is_err_and}
-use Rattle.bft_msg.proofs.Passes.{all_right, stops, goes_on}
+use Rattle.bft_msg.proofs.Alls.{all_right}
+use Rattle.bft_msg.proofs.Passes.{stops, goes_on}
 use Rattle.bft_msg.proofs.rolls.walk_both.Goals as goal
 
 pub returns-in_err-next : goal.returns-in_err-next
