@@ -13,3 +13,7 @@ Clears free faults (Err fault) = free fault ⊎ (first_of faults ≡ Some fault)
 abbrev pub Passes : {F : Type 0} → (F → Type 0) → (ℕ → Message → List F) → ℕ → List Message → Result ℕ F → Type 0
 Passes free faults first parts (Ok next) = (numbered faults first parts ≡ []) × (next ≡ first + length parts)
 Passes free faults first parts (Err fault) = free fault ⊎ (first_of (numbered faults first parts) ≡ Some fault)
+
+-- each fault has a cause
+abbrev pub NoneIs : {F : Type 0} → F → Type 0
+NoneIs x = ⊥

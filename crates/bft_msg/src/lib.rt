@@ -8,6 +8,7 @@
 mod check;
 mod rolls;
 mod shaped;
+mod strangers;
 mod walking;
 
 pub use check::Check;
