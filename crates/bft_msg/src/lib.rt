@@ -6,7 +6,9 @@
 #![tactic(auto)]
 
 mod check;
+mod numbers;
 mod rolls;
+mod rules;
 mod shaped;
 mod strangers;
 mod walking;
