@@ -5,6 +5,7 @@
 //! both words, in `Format` and `Shape`).
 #![tactic(auto)]
 
+mod certificates;
 mod check;
 mod numbers;
 mod rolls;
