@@ -1,0 +1,45 @@
+//! Where the pieces of a spelling go.
+ghost use Rattle.std.specs.Prelude.{ℕ, List, OnOk};
+ghost use Rattle.msg_spell.specs.Pieces.{Gains};
+
+use fab_codec::put_run;
+use sha2::{Digest, Sha256};
+use std::alloc::AllocError;
+use std::convert::Infallible;
+
+/// What takes the pieces of a spelling, one after another.
+pub trait Writer {
+    /// Why a piece isn't taken.
+    type Fault;
+
+    ghost holds: { Self → List ℕ → Type 0 };
+
+    /// Takes a piece.
+    fn write(&mut self, piece: &[u8]) -> Result<(), Self::Fault>
+        ensures { OnOk result (Gains holds self.old self.new piece.now) };
+}
+
+impl Writer for Vec<u8> {
+    ghost use Rattle.std.specs.Prelude.{◌≡◌};
+
+    type Fault = AllocError;
+
+    ghost holds = { λ v written. v.items ≡ written };
+
+    fn write(&mut self, piece: &[u8]) -> Result<(), AllocError> {
+        put_run(self, piece)
+    }
+}
+
+impl Writer for Sha256 {
+    ghost use Rattle.sha2.specs.Hashers.{Holds256};
+
+    type Fault = Infallible;
+
+    ghost holds = { Holds256 };
+
+    fn write(&mut self, piece: &[u8]) -> Result<(), Infallible> {
+        self.update(piece);
+        Ok(())
+    }
+}
