@@ -40,7 +40,7 @@ all_stable_votes_fit votes h = and_left (list_all stable_vote_fits votes) _ (and
 few_certificates : (prepared : List PreparedCert) → certificates_fit prepared ≡ true → length prepared ≤ MOST_CERTIFICATES
 few_certificates prepared h = at_most (length prepared) MOST_CERTIFICATES (and_left (format.at_most MOST_CERTIFICATES prepared) _ h)
 
-all_certificates_fit : (prepared : List PreparedCert) → certificates_fit prepared ≡ true → list_all certificate_fits prepared ≡ true
+pub all_certificates_fit : (prepared : List PreparedCert) → certificates_fit prepared ≡ true → list_all certificate_fits prepared ≡ true
 all_certificates_fit prepared h = and_left (list_all certificate_fits prepared) _ (and_right (format.at_most MOST_CERTIFICATES prepared) _ h)
 
 few_changes : (changes : List ViewChange) → view_changes_fit changes ≡ true → length changes ≤ MOST_STATEMENTS

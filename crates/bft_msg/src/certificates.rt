@@ -4,9 +4,13 @@ ghost use Rattle.std.specs.List.{list_all};
 ghost use Rattle.fab_base.specs.Digests.{same_digest};
 ghost use Rattle.fab_base.specs.Quorums.{quorum_size};
 ghost use Rattle.fab_base.specs.Roster.{is_cluster, size_of};
-ghost use Rattle.fab_rules.specs.Shape.{agrees_with, agree, agree_on_low, is_prepared, is_committed, is_proved};
+ghost use Rattle.fab_rules.specs.Format.{batch_fits};
+ghost use Rattle.fab_rules.specs.Shape.{agrees_with, agree, agree_on_low, bear_digest, is_prepared, is_committed, is_proved};
 
-use fab_base::{CommitCert, Hash32, Members, PreparedCert, StableVote, ViewChange, Vote, quorum};
+use fab_base::{
+    Batch, CommitCert, Hash32, Members, PreparedCert, StableVote, ViewChange, Vote, Votes, quorum,
+};
+use msg_spell::batch_digest;
 
 /// Whether so many statements are exactly a quorum of the cluster's members.
 fn is_quorum_of(members: &Members, cluster: u8, count: usize) -> bool
@@ -48,10 +52,18 @@ fn are_at(view: u64, slot: u64, votes: &[Vote]) -> bool
 }
 
 /// Whether votes bear this digest.
-pub(crate) fn bear(digest: Hash32, votes: &[Vote]) -> bool
+fn bear(digest: Hash32, votes: &[Vote]) -> bool
     ensures { result ≡ list_all (λ v. same_digest v.digest digest) votes.now }
 {
     votes.iter().all(|vote| vote.digest == digest)
+}
+
+/// Whether votes bear the digest of the batch, which is taken once.
+pub(crate) fn bear_digest(batch: &Batch, votes: &Votes) -> bool
+    requires { IsTrue (batch_fits batch.now) }
+    ensures { result ≡ bear_digest batch.now votes.now }
+{
+    bear(batch_digest(batch), votes.as_slice())
 }
 
 /// Whether it is a prepared certificate of the cluster, but for the digest of its batch: exactly a quorum's equal Prepares of its

@@ -7,6 +7,7 @@
 
 mod certificates;
 mod check;
+mod misfits;
 mod numbers;
 mod rolls;
 mod rules;

@@ -6,15 +6,16 @@ ghost use Rattle.fab_rules.specs.Shape.{is_batch_of, is_vote, is_proposal, is_re
 
 use crate::numbers::{is_open, is_primary, is_slot, is_view};
 use fab_base::{
-    GREATEST_COUNT, GREATEST_NUMBER, Members, NewView, Plea, PrePrepare, PreparedCert, Request,
+    Batch, GREATEST_COUNT, GREATEST_NUMBER, Members, NewView, Plea, PrePrepare, PreparedCert,
     ViewChange, Vote, quorum,
 };
 
 /// Whether the clients of a batch have their home in the cluster.
-pub(crate) fn is_batch_of(members: &Members, cluster: u8, requests: &[Request]) -> bool
-    requires { All (λ x. IsTrue (is_client members.now x.client)) requests.now }
-    ensures { result ≡ is_batch_of members.now cluster requests.now }
+pub(crate) fn is_batch_of(members: &Members, cluster: u8, batch: &Batch) -> bool
+    requires { All (λ x. IsTrue (is_client members.now x.client)) batch.now }
+    ensures { result ≡ is_batch_of members.now cluster batch.now }
 {
+    let requests = batch.as_slice();
     requests
         .iter()
         .all(|request| members.home(request.client) == cluster)
@@ -36,7 +37,7 @@ pub(crate) fn is_proposal(members: &Members, proposal: &PrePrepare) -> bool
     let cluster = proposal.signer.cluster;
     is_view(proposal.view)
         && is_slot(proposal.slot)
-        && is_batch_of(members, cluster, proposal.batch.as_slice())
+        && is_batch_of(members, cluster, &proposal.batch)
         && is_primary(members, cluster, proposal.view, proposal.signer.index)
 }
 
@@ -47,11 +48,7 @@ fn is_report_of(members: &Members, change: &ViewChange, certificate: &PreparedCe
 {
     is_view(certificate.view)
         && is_slot(certificate.slot)
-        && is_batch_of(
-            members,
-            change.signer.cluster,
-            certificate.batch.as_slice(),
-        )
+        && is_batch_of(members, change.signer.cluster, &certificate.batch)
         && is_open(change.low, members.window(), certificate.slot)
         && certificate.view < change.view
 }
