@@ -12,9 +12,11 @@ mod numbers;
 mod rolls;
 mod rules;
 mod shaped;
+mod shaping;
 mod strangers;
 mod walking;
 
 pub use check::Check;
 pub use shaped::Shaped;
+pub use shaping::shape;
 pub use walking::walk;

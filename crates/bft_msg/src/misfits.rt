@@ -108,6 +108,7 @@ fn in_share(members: &Members, share: &CommitCert) -> Result<(), Misfit>
 }
 
 /// The question whether a part in which no stranger has a part is well formed.
+#[derive(Clone, Copy, Drop)]
 pub(crate) struct Misfits<'a> {
     /// Who takes part.
     pub(crate) members: &'a Members,

@@ -62,6 +62,7 @@ fn unless(known: bool, part: u32) -> Result<(), Misfit>
 }
 
 /// The question whether a part is known to the members.
+#[derive(Clone, Copy, Drop)]
 pub(crate) struct Strangers<'a> {
     /// Who takes part.
     pub(crate) members: &'a Members,
