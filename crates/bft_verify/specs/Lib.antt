@@ -1,0 +1,4 @@
+pub mod Ring
+pub mod Rows
+pub mod Sound
+pub mod Answers
