@@ -1,8 +1,10 @@
 //! Bytes from anybody come in, and only sound messages go on.
 #![tactic(auto)]
 
+mod making;
 mod refusals;
 mod ring;
 
+pub use making::keyring;
 pub use refusals::Refusal;
 pub use ring::Keyring;
