@@ -4,7 +4,9 @@
 mod making;
 mod refusals;
 mod ring;
+mod verified;
 
 pub use making::keyring;
 pub use refusals::Refusal;
 pub use ring::Keyring;
+pub use verified::Verified;
