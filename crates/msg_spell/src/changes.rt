@@ -1,40 +1,48 @@
-//! View changes.
-ghost use Rattle.std.specs.Prelude.{IsTrue, OnOk, length, ◌≤◌};
-ghost use Rattle.fab_rules.specs.Spelling.{counted, signed, certificate_bytes, view_change_body, new_view_body};
-ghost use Rattle.fab_rules.specs.Format.{certificates_fit, view_change_fits, new_view_fits};
+//! View changes and new views.
+ghost use Rattle.std.specs.Prelude.{◌≡◌, IsTrue, OnOk};
+ghost use Rattle.fab_rules.specs.Spelling.{view_change_body, new_view_body};
+ghost use Rattle.fab_rules.specs.Format.{view_change_fits, view_changes_fit, new_view_fits};
 ghost use Rattle.msg_spell.specs.Pieces.{Gains};
 
-use crate::fields::{put_replica, put_signature, put_u8, put_u64};
-use crate::requests::put_batch;
-use crate::spelled::{Spelled, put_counted};
-use crate::votes::{put_proof, put_votes};
+use crate::certificates::{certificates_fit, put_certificates};
+use crate::fields::{
+    comes_before, id_fits, put_replica, put_signature, put_u8, put_u64, signature_fits,
+};
+use crate::spelled::{Fits, Ordered, Spelled, list_fits, put_counted};
+use crate::votes::{proof_fits, put_proof};
 use crate::writers::Writer;
-use fab_base::{NewView, PreparedCert, PreparedCerts, ViewChange};
+use fab_base::{MOST_STATEMENTS, NewView, ReplicaId, ViewChange, ViewChanges};
 
-impl Spelled for PreparedCert {
-    ghost use Rattle.fab_rules.specs.Format.{certificate_fits};
-    ghost use Rattle.fab_rules.specs.Spelling.{certificate_bytes};
+impl Fits for ViewChange {
+    ghost use Rattle.fab_rules.specs.Format.{view_change_fits};
 
-    ghost fits = { certificate_fits };
+    ghost fits = { view_change_fits };
 
-    ghost spelling = { certificate_bytes };
-
-    fn put<W: Writer>(&self, out: &mut W) -> Result<(), W::Fault> {
-        put_u64(out, self.view)?;
-        put_u64(out, self.slot)?;
-        put_batch(out, &self.batch)?;
-        put_votes(out, 3, &self.votes)?;
-        Ok(())
+    fn fits(&self) -> bool {
+        let _view = self.view;
+        let _low = self.low;
+        id_fits(self.signer)
+            && proof_fits(&self.proof)
+            && certificates_fit(&self.prepared)
+            && signature_fits(&self.sig)
     }
 }
 
-fn put_certificates<W: Writer>(out: &mut W, prepared: &PreparedCerts) -> Result<(), W::Fault>
-    requires { IsTrue (certificates_fit prepared.now) }
-    ensures { OnOk result (Gains W.holds out.old out.new (counted certificate_bytes prepared.now)) }
-{
-    put_counted(out, prepared)
+impl Ordered for ViewChange {
+    ghost use Rattle.fab_rules.specs.Format.{comes_before};
+
+    type Rank = ReplicaId;
+
+    ghost rank = { λ c. c.signer };
+
+    ghost before = { comes_before };
+
+    fn precedes(&self, next: &ViewChange) -> bool {
+        comes_before(self.signer, next.signer)
+    }
 }
 
+/// Writes what is signed of a view change, but for the format.
 pub fn put_view_change_body<W: Writer>(out: &mut W, change: &ViewChange) -> Result<(), W::Fault>
     requires { IsTrue (view_change_fits change.now) }
     ensures { OnOk result (Gains W.holds out.old out.new (view_change_body change.now)) }
@@ -49,10 +57,7 @@ pub fn put_view_change_body<W: Writer>(out: &mut W, change: &ViewChange) -> Resu
 }
 
 impl Spelled for ViewChange {
-    ghost use Rattle.fab_rules.specs.Format.{view_change_fits};
     ghost use Rattle.fab_rules.specs.Spelling.{signed, view_change_body};
-
-    ghost fits = { view_change_fits };
 
     ghost spelling = { λ c. signed (view_change_body c) c.sig };
 
@@ -63,6 +68,21 @@ impl Spelled for ViewChange {
     }
 }
 
+fn view_changes_fit(changes: &ViewChanges) -> bool
+    ensures { result ≡ view_changes_fit changes.now }
+{
+    list_fits(changes, MOST_STATEMENTS)
+}
+
+/// Whether a new view is within the ranges, counts and lengths.
+pub fn new_view_fits(new_view: &NewView) -> bool
+    ensures { result ≡ new_view_fits new_view.now }
+{
+    let _view = new_view.view;
+    id_fits(new_view.signer) && view_changes_fit(&new_view.changes) && signature_fits(&new_view.sig)
+}
+
+/// Writes what is signed of a new view, but for the format.
 pub fn put_new_view_body<W: Writer>(out: &mut W, new_view: &NewView) -> Result<(), W::Fault>
     requires { IsTrue (new_view_fits new_view.now) }
     ensures { OnOk result (Gains W.holds out.old out.new (new_view_body new_view.now)) }

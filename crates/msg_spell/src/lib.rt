@@ -1,10 +1,14 @@
 //! Messages as bytes.
 #![tactic(auto)]
 
+mod certificates;
 mod changes;
 mod contents;
 mod digests;
 mod fields;
+mod messages;
+mod notes;
+mod pleas;
 mod requests;
 mod spelled;
 mod votes;
@@ -15,3 +19,4 @@ pub use contents::{
     put_view_change_content,
 };
 pub use digests::batch_digest;
+pub use messages::{content, encode, fits};

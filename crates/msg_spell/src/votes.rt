@@ -1,15 +1,51 @@
-//! Votes and checkpoints.
-ghost use Rattle.std.specs.Prelude.{IsTrue, OnOk, length, ◌≤◌};
+//! Votes, checkpoints, and the lists of them.
+ghost use Rattle.std.specs.Prelude.{◌≡◌, IsTrue, OnOk};
 ghost use Rattle.std.specs.List.{flat_map, list_all};
 ghost use Rattle.fab_rules.specs.Spelling.{counted, signed, vote_body, checkpoint_body};
-ghost use Rattle.fab_rules.specs.Format.{vote_fits, votes_fit, stable_vote_fits, proof_fits};
+ghost use Rattle.fab_rules.specs.Format.{vote_fits, votes_fit, proof_fits};
 ghost use Rattle.msg_spell.specs.Pieces.{Gains};
 
-use crate::fields::{put_replica, put_signature, put_u8, put_u64};
-use crate::spelled::{Spelled, put_counted};
+use crate::fields::{
+    comes_before, digest_fits, id_fits, put_replica, put_signature, put_u8, put_u64, signature_fits,
+};
+use crate::spelled::{Fits, Ordered, Spelled, list_fits, put_counted};
 use crate::writers::Writer;
-use fab_base::{StableVote, StableVotes, Vote, Votes};
+use fab_base::{MOST_STATEMENTS, ReplicaId, StableVote, StableVotes, Vote, Votes};
 
+impl Fits for Vote {
+    ghost use Rattle.fab_rules.specs.Format.{vote_fits};
+
+    ghost fits = { vote_fits };
+
+    fn fits(&self) -> bool {
+        let _view = self.view;
+        let _slot = self.slot;
+        id_fits(self.signer) && digest_fits(&self.digest) && signature_fits(&self.sig)
+    }
+}
+
+impl Ordered for Vote {
+    ghost use Rattle.fab_rules.specs.Format.{comes_before};
+
+    type Rank = ReplicaId;
+
+    ghost rank = { λ v. v.signer };
+
+    ghost before = { comes_before };
+
+    fn precedes(&self, next: &Vote) -> bool {
+        comes_before(self.signer, next.signer)
+    }
+}
+
+/// Whether there are at most so many votes as a list may have, each within the ranges and lengths, and their signers rise.
+pub fn votes_fit(votes: &Votes) -> bool
+    ensures { result ≡ votes_fit votes.now }
+{
+    list_fits(votes, MOST_STATEMENTS)
+}
+
+/// Writes what is signed of a vote, but for the format: under the tag 3 of a Prepare, under 4 of a Commit.
 pub fn put_vote_body<W: Writer>(out: &mut W, tag: u8, vote: &Vote) -> Result<(), W::Fault>
     ensures { OnOk result (Gains W.holds out.old out.new (vote_body tag vote.now)) }
 {
@@ -40,6 +76,7 @@ fn put_each_vote<W: Writer>(out: &mut W, tag: u8, votes: &[Vote]) -> Result<(), 
     Ok(())
 }
 
+/// Writes the number of the votes and their spellings, under this tag.
 pub fn put_votes<W: Writer>(out: &mut W, tag: u8, votes: &Votes) -> Result<(), W::Fault>
     requires { IsTrue (votes_fit votes.now) }
     ensures { OnOk result (Gains W.holds out.old out.new (counted (λ v. signed (vote_body tag v) v.sig) votes.now)) }
@@ -48,6 +85,39 @@ pub fn put_votes<W: Writer>(out: &mut W, tag: u8, votes: &Votes) -> Result<(), W
     put_each_vote(out, tag, votes.as_slice())
 }
 
+impl Fits for StableVote {
+    ghost use Rattle.fab_rules.specs.Format.{stable_vote_fits};
+
+    ghost fits = { stable_vote_fits };
+
+    fn fits(&self) -> bool {
+        let _round = self.round;
+        id_fits(self.signer) && digest_fits(&self.digest) && signature_fits(&self.sig)
+    }
+}
+
+impl Ordered for StableVote {
+    ghost use Rattle.fab_rules.specs.Format.{comes_before};
+
+    type Rank = ReplicaId;
+
+    ghost rank = { λ v. v.signer };
+
+    ghost before = { comes_before };
+
+    fn precedes(&self, next: &StableVote) -> bool {
+        comes_before(self.signer, next.signer)
+    }
+}
+
+/// Whether there are at most so many checkpoints as a list may have, each within the ranges and lengths, and their signers rise.
+pub fn proof_fits(proof: &StableVotes) -> bool
+    ensures { result ≡ proof_fits proof.now }
+{
+    list_fits(proof, MOST_STATEMENTS)
+}
+
+/// Writes what is signed of a checkpoint, but for the format.
 pub fn put_checkpoint_body<W: Writer>(out: &mut W, vote: &StableVote) -> Result<(), W::Fault>
     ensures { OnOk result (Gains W.holds out.old out.new (checkpoint_body vote.now)) }
 {
@@ -59,10 +129,7 @@ pub fn put_checkpoint_body<W: Writer>(out: &mut W, vote: &StableVote) -> Result<
 }
 
 impl Spelled for StableVote {
-    ghost use Rattle.fab_rules.specs.Format.{stable_vote_fits};
     ghost use Rattle.fab_rules.specs.Spelling.{signed, checkpoint_body};
-
-    ghost fits = { stable_vote_fits };
 
     ghost spelling = { λ v. signed (checkpoint_body v) v.sig };
 
@@ -73,6 +140,7 @@ impl Spelled for StableVote {
     }
 }
 
+/// Writes the number of the checkpoints and their spellings.
 pub fn put_proof<W: Writer>(out: &mut W, proof: &StableVotes) -> Result<(), W::Fault>
     requires { IsTrue (proof_fits proof.now) }
     ensures { OnOk result (Gains W.holds out.old out.new (counted (λ v. signed (checkpoint_body v) v.sig) proof.now)) }

@@ -1,5 +1,5 @@
 //! Where the pieces of a spelling go.
-ghost use Rattle.std.specs.Prelude.{ℕ, List, OnOk};
+ghost use Rattle.std.specs.Prelude.{◌≡◌, ℕ, [], List, OnOk};
 ghost use Rattle.msg_spell.specs.Pieces.{Gains};
 
 use fab_codec::put_run;
@@ -19,6 +19,7 @@ pub trait Writer {
         ensures { OnOk result (Gains holds self.old self.new piece.now) };
 }
 
+/// The pieces themselves. A piece isn't taken where memory is refused.
 impl Writer for Vec<u8> {
     ghost use Rattle.std.specs.Prelude.{◌≡◌};
 
@@ -31,6 +32,7 @@ impl Writer for Vec<u8> {
     }
 }
 
+/// Their digest (FIPS 180-4). Every piece is taken.
 impl Writer for Sha256 {
     ghost use Rattle.sha2.specs.Hashers.{Holds256};
 
@@ -40,6 +42,28 @@ impl Writer for Sha256 {
 
     fn write(&mut self, piece: &[u8]) -> Result<(), Infallible> {
         self.update(piece);
+        Ok(())
+    }
+}
+
+/// The number of their bytes. It stands still at the last value of a `usize`.
+#[derive(Drop)]
+pub struct Length {
+    /// The number.
+    pub bytes: usize,
+}
+
+impl Writer for Length {
+    ghost use Rattle.std.specs.Prelude.{◌≡◌, length, min};
+    ghost use Rattle.std.below.core.specs.declared.int.usize.TheConstants.{MAX};
+
+    type Fault = Infallible;
+
+    ghost holds = { λ l written. l.bytes ≡ min (length written) MAX };
+
+    /// Every piece is taken.
+    fn write(&mut self, piece: &[u8]) -> Result<(), Infallible> {
+        self.bytes = self.bytes.saturating_add(piece.len());
         Ok(())
     }
 }
