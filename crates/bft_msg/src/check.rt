@@ -7,8 +7,9 @@ use fab_base::{Message, Request, StableVote, ViewChange, Vote};
 /// `may` says of which parts it may be asked, `wrong` lists the faults of a part that has a number, and `free` has the faults that
 /// need no cause, such as want of memory.
 pub trait Check {
-    ghost use Rattle.std.specs.Prelude.{ℕ, List};
+    ghost use Rattle.std.specs.Prelude.{ℕ, List, IsTrue};
     ghost use Rattle.fab_base.specs.declared.messages.Message.{Message};
+    ghost use Rattle.fab_rules.specs.Format.{fits};
     ghost use Rattle.bft_msg.specs.Passing.{Clears};
 
     /// What may be wrong with a part.
@@ -22,7 +23,8 @@ pub trait Check {
 
     /// Asks of the message itself.
     fn message(&self, message: &Message) -> Result<(), Self::Fault>
-        requires { may self.now message.now }
+        requires spelled { IsTrue (fits message.now) }
+        requires may { may self.now message.now }
         ensures { Clears free (wrong self.now 0 message.now) result };
 
     /// Asks of a request inside a message.
