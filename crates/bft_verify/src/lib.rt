@@ -4,6 +4,7 @@
 mod making;
 mod refusals;
 mod ring;
+mod signatures;
 mod verified;
 
 pub use making::keyring;
