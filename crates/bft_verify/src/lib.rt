@@ -1,0 +1,13 @@
+//! Bytes from anybody come in, and only sound messages go on.
+#![tactic(auto)]
+
+mod making;
+mod refusals;
+mod ring;
+mod signatures;
+mod verified;
+
+pub use making::keyring;
+pub use refusals::Refusal;
+pub use ring::Keyring;
+pub use verified::Verified;
