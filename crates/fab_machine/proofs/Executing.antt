@@ -34,8 +34,8 @@ use Rattle.fab_machine.specs.Diaries.{diary_did, diary_after}
 use Rattle.fab_machine.specs.Relation.{IsBatchKnown, AreLocal, IsBacked, full_of, AreFacts, AreRelated}
 use Rattle.fab_machine.proofs.Lists.{in_at, get_behind}
 use Rattle.fab_machine.proofs.Members.{IsMember}
-use Rattle.fab_machine.proofs.Saying.{heard_before, still_heard, ledger-after_saying, after_saying-both}
-use Rattle.fab_machine.proofs.Chains.{state_after_blocks-append, run_at, run_there, run_behind}
+use Rattle.fab_rules.proofs.Saying.{heard_before, still_heard, ledger-after_saying, after_saying-both}
+use Rattle.fab_rules.proofs.Chains.{state_after_blocks-append, run_at, run_there, run_behind}
 use Rattle.fab_machine.proofs.Shaped.{commit_slot, shaped_batch_fits}
 use Rattle.fab_machine.proofs.Shaping.{shaped_note}
 use Rattle.fab_machine.proofs.Values.{run_fits}

@@ -1,7 +1,3 @@
-pub mod Saying
-pub mod Chains
-pub mod Lengths
-pub mod Shares
 pub mod Lists
 pub mod Values
 pub mod Members

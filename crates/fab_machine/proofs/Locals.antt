@@ -20,7 +20,7 @@ use Rattle.pbft_slots.specs.Window.{Window, place_in}
 use Rattle.fab_machine.specs.State.{Proposed, Local}
 use Rattle.fab_machine.specs.Voting.{with_certificate}
 use Rattle.fab_machine.specs.Relation.{AreHeld, AreWaiting, IsQuoting, IsNoted, IsReported, IsEntered, AreLocal}
-use Rattle.fab_machine.proofs.Saying.{same_said, said_is_not_heard}
+use Rattle.fab_rules.proofs.Saying.{same_said, said_is_not_heard}
 use Rattle.fab_machine.proofs.MoreHeard.{hears_later, held_more, reported_more, quoting_more}
 use Rattle.fab_machine.proofs.Windows.{IsLater}
 use Rattle.fab_machine.proofs.Noting.{is_some_by, noted_beside, noted_later, noted_kept}

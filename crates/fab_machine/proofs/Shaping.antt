@@ -20,7 +20,7 @@ use Rattle.fab_rules.proofs.Lists.{all_pass, of_map}
 use Rattle.fab_rules.proofs.Digests.{batch_digest_fits}
 use Rattle.fab_machine.specs.Items.{vote_of, proposal_of}
 use Rattle.fab_machine.specs.Step.{note_of}
-use Rattle.fab_machine.proofs.Lengths.{prepare_is_short, commit_is_short, proposal_is_short, note_is_short}
+use Rattle.fab_rules.proofs.Lengths.{prepare_is_spelled, commit_is_spelled, proposal_is_spelled, note_is_spelled}
 use Rattle.fab_machine.proofs.Members.{IsMember}
 use Rattle.fab_machine.proofs.Shaped.{IsPlainPart, nothing_wrong, client_known, shaped_request_fits}
 
@@ -53,7 +53,7 @@ pub shaped_prepare : (r : Roster) (me : ReplicaId) (view slot : ℕ) (d : Hash32
 shaped_prepare r me view slot d is v s t digest =
     let m = Message.Prepare (vote_of me view slot d) in
     record {
-      spelled = prepare_is_short (vote_of me view slot d) (put_vote_fits r me view slot d is v t digest);
+      spelled = prepare_is_spelled (vote_of me view slot d) (put_vote_fits r me view slot d is v t digest);
       fitting = nothing_wrong r m (λ p h. alone r m p (record { known = is.known; keeps = put_vote_is me view slot d v s t; plain = λ j. refl }) h);
     }
 
@@ -62,7 +62,7 @@ pub shaped_commit : (r : Roster) (me : ReplicaId) (view slot : ℕ) (d : Hash32)
 shaped_commit r me view slot d is v s t digest =
     let m = Message.Commit (vote_of me view slot d) in
     record {
-      spelled = commit_is_short (vote_of me view slot d) (put_vote_fits r me view slot d is v t digest);
+      spelled = commit_is_spelled (vote_of me view slot d) (put_vote_fits r me view slot d is v t digest);
       fitting = nothing_wrong r m (λ p h. alone r m p (record { known = is.known; keeps = put_vote_is me view slot d v s t; plain = λ j. refl }) h);
     }
 
@@ -87,7 +87,7 @@ shaped_proposal r me view slot batch is v s t primary few shaped homes =
     (and_both (is_view view && is_slot slot) (is_batch_of r me.cluster batch)
     (and_both (is_view view) (is_slot slot) (is_at_most view GREATEST_NUMBER v) (is_slot_from slot s t)) from) primary in
     record {
-      spelled = proposal_is_short p fit;
+      spelled = proposal_is_spelled p fit;
       fitting = nothing_wrong r m (λ x h. part m keeps x h);
     }
   where
@@ -120,6 +120,6 @@ shaped_note r me round ran is s t few each =
     and_both (id_fits me) _ is.fits
     (and_both (is_u64 round) _ (wide_enough round t) (and_both (digest_fits n.digest) _ (batch_digest_fits ran.block.batch) (and_both (lines_fit (lines_of ran)) _ lines refl))) in
     record {
-      spelled = note_is_short n fit;
+      spelled = note_is_spelled n fit;
       fitting = nothing_wrong r m (λ p h. alone r m p (record { known = is.known; keeps = is_slot_from round s t; plain = λ j. refl }) h);
     }

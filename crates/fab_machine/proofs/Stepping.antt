@@ -26,7 +26,7 @@ use Rattle.fab_machine.specs.Diaries.{diary_sent}
 use Rattle.fab_machine.specs.Relation.{IsBacked, AreRounds, full_of, IsOfView, Wait, AreFacts, AreRelated, after_puts, IsTold}
 use Rattle.fab_machine.specs.declared.outs.Out.{Out}
 use Rattle.fab_machine.proofs.Members.{IsMember}
-use Rattle.fab_machine.proofs.Saying.{same_heard, heard_before, still_heard, ledger-after_saying, after_saying-both}
+use Rattle.fab_rules.proofs.Saying.{same_heard, heard_before, still_heard, ledger-after_saying, after_saying-both}
 use Rattle.fab_machine.proofs.MoreHeard.{HearsAll, backed_more}
 use Rattle.fab_machine.proofs.Locals.{local_grown}
 use Rattle.fab_machine.proofs.Telling.{IsToldOf}
