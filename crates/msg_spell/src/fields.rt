@@ -85,5 +85,6 @@ pub fn put_replica<W: Writer>(out: &mut W, replica: ReplicaId) -> Result<(), W::
     ensures { OnOk result (Gains W.holds out.old out.new (replica_bytes replica)) }
 {
     put_u8(out, replica.cluster)?;
-    put_u8(out, replica.index)
+    put_u8(out, replica.index)?;
+    Ok(())
 }

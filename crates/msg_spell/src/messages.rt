@@ -58,23 +58,23 @@ fn put_seal<W: Writer>(out: &mut W, message: &Message) -> Result<(), W::Fault>
     }
 }
 
-#[tactic(auto, unfolding(fab_rules::specs::Spelling::content_of))]
 fn put_content<W: Writer>(out: &mut W, message: &Message) -> Result<(), W::Fault>
     requires { IsTrue (fields_fit message.now) }
     ensures { OnOk result (Gains W.holds out.old out.new (content_of message.now)) }
 {
     put_u8(out, 1)?;
-    put_body(out, message)
+    put_body(out, message)?;
+    Ok(())
 }
 
-#[tactic(auto, unfolding(fab_rules::specs::Spelling::spelling_of))]
 fn put_message<W: Writer>(out: &mut W, message: &Message) -> Result<(), W::Fault>
     requires { IsTrue (fields_fit message.now) }
     ensures { OnOk result (Gains W.holds out.old out.new (spelling_of message.now)) }
 {
     put_u8(out, 1)?;
     put_body(out, message)?;
-    put_seal(out, message)
+    put_seal(out, message)?;
+    Ok(())
 }
 
 /// The number of bytes of a message's spelling, or the last value of a `usize` where there are more.

@@ -57,7 +57,8 @@ impl Spelled for NoteLine {
     fn put<W: Writer>(&self, out: &mut W) -> Result<(), W::Fault> {
         put_u8(out, self.client.number)?;
         put_u32(out, self.stamp)?;
-        put_outcome(out, &self.outcome)
+        put_outcome(out, &self.outcome)?;
+        Ok(())
     }
 }
 

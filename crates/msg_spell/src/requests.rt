@@ -100,7 +100,8 @@ pub fn put_request_body<W: Writer>(out: &mut W, request: &Request) -> Result<(),
     put_u8(out, 1)?;
     put_u8(out, request.client.number)?;
     put_u32(out, request.stamp)?;
-    put_op(out, &request.op)
+    put_op(out, &request.op)?;
+    Ok(())
 }
 
 impl Spelled for Request {
@@ -110,7 +111,8 @@ impl Spelled for Request {
 
     fn put<W: Writer>(&self, out: &mut W) -> Result<(), W::Fault> {
         put_request_body(out, self)?;
-        put_signature(out, &self.sig)
+        put_signature(out, &self.sig)?;
+        Ok(())
     }
 }
 
