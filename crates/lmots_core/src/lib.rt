@@ -26,8 +26,6 @@ mod laws;
 mod public_keys;
 mod seed;
 mod signatures;
-#[cfg(test)]
-mod tests;
 
 pub use candidates::candidate;
 pub use digits::{checksum, coef};

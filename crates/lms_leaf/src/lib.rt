@@ -9,7 +9,5 @@
 #![tactic(auto)]
 
 mod leaf_signer;
-#[cfg(test)]
-mod tests;
 
 pub use leaf_signer::LeafSigner;

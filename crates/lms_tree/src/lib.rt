@@ -33,8 +33,6 @@ mod room;
 mod signers;
 mod signing;
 mod spelling;
-#[cfg(test)]
-mod tests;
 mod verifying;
 
 pub use fab_rows::NoMemory;
