@@ -16,6 +16,11 @@ failed=0
 pass() { passed=$((passed + 1)); }
 fail() { failed=$((failed + 1)); echo "failed: $1"; }
 
+# how many runs there are to be: each script, and two for each row of the table, by each of two builds
+scripts=$(ls "$top"/examples/*.script | wc -l)
+rows=$(grep -c '^| `' "$top/examples/bad_lines.md")
+wanted_runs=$((2 * (scripts + 2 * rows)))
+
 # lines TEXT: the lines of a script that is written with " / " for each line's end
 lines() { printf '%s\n' "$1" | sed 's| / |\n|g'; }
 
@@ -61,4 +66,8 @@ for backend in llvm rattle; do
   done <"$top/examples/bad_lines.md"
 done
 echo "$passed passed, $failed failed"
+if [ "$((passed + failed))" != "$wanted_runs" ]; then
+  echo "failed: $((passed + failed)) runs in place of $wanted_runs"
+  exit 1
+fi
 [ "$failed" = 0 ]
