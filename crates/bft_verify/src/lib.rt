@@ -6,8 +6,10 @@ mod refusals;
 mod ring;
 mod signatures;
 mod verified;
+mod verifying;
 
 pub use making::keyring;
 pub use refusals::Refusal;
 pub use ring::Keyring;
 pub use verified::Verified;
+pub use verifying::verify;
