@@ -1,6 +1,6 @@
 -- What holds of each item of a list, where lists are joined.
 use Rattle.std.specs.List.{AllByRecursion, flat_map, list_all}
-use Rattle.std.proofs.Common.{◌≡◌, ℕ, ◌*◌, ◌≤◌, Bool, true, ◌&&◌, List, [], ◌∷◌, ◌++◌, length, map, subst, sym, arith}
+use Rattle.std.proofs.Common.{◌≡◌, ℕ, ◌*◌, ◌≤◌, Bool, true, List, [], ◌∷◌, ◌++◌, length, map, arith}
 use Rattle.std.proofs.Math.Nat.{suc-mul}
 use Rattle.std.proofs.lemmas.List.{length-append}
 use Rattle.fab_base.proofs.Tests.{and_left, and_right}
@@ -39,5 +39,10 @@ pub few_in_all : {X Y : Type 0} (p : X → Bool) (f : X → List Y) (most : ℕ)
     → list_all p xs ≡ true → length (flat_map f xs) ≤ length xs * most
 few_in_all p f most each [] h = omega arith
 few_in_all p f most each (x ∷ xs) h =
-    omega (arith, each x (and_left (p x) (list_all p xs) h), few_in_all p f most each xs (and_right (p x) (list_all p xs) h),
-    length-append (f x) (flat_map f xs), suc-mul (length xs) most)
+    omega (
+      arith,
+      each x (and_left (p x) (list_all p xs) h),
+      few_in_all p f most each xs (and_right (p x) (list_all p xs) h),
+      length-append (f x) (flat_map f xs),
+      suc-mul (length xs) most,
+    )

@@ -1,6 +1,6 @@
 -- The parts of a message that has a spelling: each is within the ranges, and there are few.
 use Rattle.std.specs.List.{AllByRecursion, flat_map, list_all}
-use Rattle.std.proofs.Common.{◌≡◌, ℕ, ◌+◌, ◌*◌, ◌≤◌, Bool, true, ◌&&◌, List, [], ◌∷◌, ◌++◌, length, map, refl, arith}
+use Rattle.std.proofs.Common.{◌≡◌, ℕ, ◌+◌, ◌*◌, ◌≤◌, true, List, length, map, arith}
 use Rattle.std.proofs.lemmas.List.{length-append, length-map}
 use Rattle.fab_base.specs.declared.limits.TheConstants.{MOST_CERTIFICATES, MOST_REQUESTS, MOST_STATEMENTS}
 use Rattle.fab_base.specs.declared.requests.Request.{Request}
@@ -8,7 +8,6 @@ use Rattle.fab_base.specs.declared.messages.Vote.{Vote}
 use Rattle.fab_base.specs.declared.messages.StableVote.{StableVote}
 use Rattle.fab_base.specs.declared.messages.PreparedCert.{PreparedCert}
 use Rattle.fab_base.specs.declared.messages.ViewChange.{ViewChange}
-use Rattle.fab_base.specs.declared.messages.NewView.{NewView}
 use Rattle.fab_base.specs.declared.messages.Message.{Message}
 use Rattle.fab_base.proofs.Tests.{and_left, and_right, at_most}
 use Rattle.fab_rules.specs.Statements.{parts_of_certificate, parts_of_change, parts_of}
@@ -91,18 +90,38 @@ parts_fit (Message.Fetch x) h = (h, tt)
 
 -- ---- and there are few
 
-few_in_certificate : (k : PreparedCert) → certificate_fits k ≡ true → length (parts_of_certificate k) ≤ 18
+abbrev most_in_certificate : ℕ
+most_in_certificate = MOST_REQUESTS + MOST_STATEMENTS
+
+abbrev most_in_change : ℕ
+most_in_change = 1 + MOST_STATEMENTS + MOST_CERTIFICATES * most_in_certificate
+
+abbrev pub most_parts : ℕ
+most_parts = 1 + MOST_STATEMENTS * most_in_change
+
+few_in_certificate : (k : PreparedCert) → certificate_fits k ≡ true → length (parts_of_certificate k) ≤ most_in_certificate
 few_in_certificate k h =
-    omega (arith, few_requests k.batch (certificate_batch_fits k h), few_votes k.votes (certificate_votes_fit k h),
-    length-append (map Message.Request k.batch) (map Message.Prepare k.votes), length-map k.batch Message.Request, length-map k.votes Message.Prepare)
+    omega (
+      arith,
+      few_requests k.batch (certificate_batch_fits k h),
+      few_votes k.votes (certificate_votes_fit k h),
+      length-append (map Message.Request k.batch) (map Message.Prepare k.votes),
+      length-map k.batch Message.Request,
+      length-map k.votes Message.Prepare,
+    )
 
-few_in_change : (c : ViewChange) → view_change_fits c ≡ true → length (parts_of_change c) ≤ 299
+few_in_change : (c : ViewChange) → view_change_fits c ≡ true → length (parts_of_change c) ≤ most_in_change
 few_in_change c h =
-    omega (arith, few_stable_votes c.proof (proof_is c h), few_certificates c.prepared (certificates_are c h), length-map c.proof Message.Checkpoint,
-    few_in_all certificate_fits parts_of_certificate 18 few_in_certificate c.prepared (all_certificates_fit c.prepared (certificates_are c h)),
-    length-append (map Message.Checkpoint c.proof) (flat_map parts_of_certificate c.prepared))
+    omega (
+      arith,
+      few_stable_votes c.proof (proof_is c h),
+      few_certificates c.prepared (certificates_are c h),
+      length-map c.proof Message.Checkpoint,
+      few_in_all certificate_fits parts_of_certificate most_in_certificate few_in_certificate c.prepared (all_certificates_fit c.prepared (certificates_are c h)),
+      length-append (map Message.Checkpoint c.proof) (flat_map parts_of_certificate c.prepared),
+    )
 
-pub few_parts : (m : Message) → fields_fit m ≡ true → length (parts_of m) ≤ 2991
+pub few_parts : (m : Message) → fields_fit m ≡ true → length (parts_of m) ≤ most_parts
 few_parts (Message.Request x) h = omega arith
 few_parts (Message.PrePrepare x) h = omega (arith, few_requests x.batch (proposal_batch_fits x h), length-map x.batch Message.Request)
 few_parts (Message.Prepare x) h = omega arith
@@ -110,12 +129,21 @@ few_parts (Message.Commit x) h = omega arith
 few_parts (Message.Checkpoint x) h = omega arith
 few_parts (Message.ViewChange x) h = omega (arith, few_in_change x h)
 few_parts (Message.NewView x) h =
-    omega (arith, few_changes x.changes (changes_are x h),
-    few_in_all view_change_fits parts_of_change 299 few_in_change x.changes (all_changes_fit x.changes (changes_are x h)))
+    omega (
+      arith,
+      few_changes x.changes (changes_are x h),
+      few_in_all view_change_fits parts_of_change most_in_change few_in_change x.changes (all_changes_fit x.changes (changes_are x h)),
+    )
 few_parts (Message.Drvc x) h = omega arith
 few_parts (Message.Rvc x) h = omega arith
 few_parts (Message.ReplyNote x) h = omega arith
 few_parts (Message.Share x) h =
-    omega (arith, few_requests x.batch (share_batch_fits x h), few_votes x.votes (share_votes_fit x h),
-    length-append (map Message.Request x.batch) (map Message.Commit x.votes), length-map x.batch Message.Request, length-map x.votes Message.Commit)
+    omega (
+      arith,
+      few_requests x.batch (share_batch_fits x h),
+      few_votes x.votes (share_votes_fit x h),
+      length-append (map Message.Request x.batch) (map Message.Commit x.votes),
+      length-map x.batch Message.Request,
+      length-map x.votes Message.Commit,
+    )
 few_parts (Message.Fetch x) h = omega arith

@@ -1,6 +1,6 @@
 -- What is known of the batches in a part that is ready.
 use Rattle.std.specs.List.{AllByRecursion, flat_map, list_all}
-use Rattle.std.proofs.Common.{◌≡◌, true, All, IsTrue, List, [], ◌∷◌, ◌++◌, map}
+use Rattle.std.proofs.Common.{◌≡◌, true, All, IsTrue, List, [], ◌∷◌, map}
 use Rattle.std.proofs.lemmas.List.Elements.{All-from_recursion}
 use Rattle.fab_base.specs.Limits.{Roster}
 use Rattle.fab_base.specs.Roster.{is_client}

@@ -30,12 +30,7 @@ fn unless(keeps: bool, part: u32) -> Result<(), Misfit>
 }
 
 /// What is wrong with a certificate in a part, of which it is known whether it is one but for the digest of its batch.
-fn in_certificate(
-    certifies: bool,
-    part: u32,
-    batch: &Batch,
-    votes: &Votes,
-) -> Result<(), Misfit>
+fn in_certificate(certifies: bool, part: u32, batch: &Batch, votes: &Votes) -> Result<(), Misfit>
     requires { IsTrue (batch_fits batch.now) }
     ensures { Clears NoneIs (unless certifies (Misfit.BadCert part) ++ unless (bear_digest batch.now votes.now) (Misfit.WrongDigest part)) result }
 {

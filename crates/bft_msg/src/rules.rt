@@ -71,7 +71,7 @@ pub(crate) fn is_view_change(members: &Members, change: &ViewChange) -> bool
     change.view >= 1
         && is_view(change.view)
         && change.low <= GREATEST_NUMBER
-        && (change.low != 0 || change.proof.len() == 0)
+        && (change.low != 0 || change.proof.is_empty())
         && are_reports_of(members, change, change.prepared.as_slice())
 }
 
@@ -79,9 +79,7 @@ pub(crate) fn is_view_change(members: &Members, change: &ViewChange) -> bool
 fn are_for(cluster: u8, view: u64, changes: &[ViewChange]) -> bool
     ensures { result ≡ list_all (λ c. nat_eq c.signer.cluster cluster && nat_eq c.view view) changes.now }
 {
-    changes
-        .iter()
-        .all(|change| change.signer.cluster == cluster && change.view == view)
+    changes.iter().all(|change| change.signer.cluster == cluster && change.view == view)
 }
 
 /// The rule of new views.

@@ -3,6 +3,7 @@ use Rattle.std.specs.Prelude.{◌≡◌, ◌⊎◌, ℕ, List, Result, Ok, Err}
 use Rattle.fab_base.specs.Limits.{Roster}
 use Rattle.fab_base.specs.declared.messages.Message.{Message}
 use Rattle.fab_codec.specs.declared.faults.CodeFault.{CodeFault}
+use Rattle.msg_read.specs.declared.faults.DecodeFault.{DecodeFault}
 use Rattle.bft_verify.specs.declared.refusals.Refusal.{Refusal}
 use Rattle.bft_verify.specs.Ring.{Ring}
 use Rattle.bft_verify.specs.Sound.{judged}
@@ -11,6 +12,10 @@ use Rattle.bft_verify.specs.Sound.{judged}
 abbrev pub judged_as_read : Roster → Ring → Result Message CodeFault → Result Message Refusal
 judged_as_read r ring (Err fault) = Err (Refusal.Decode fault)
 judged_as_read r ring (Ok m) = judged r ring m
+
+abbrev pub of_decode : DecodeFault → Refusal
+of_decode (DecodeFault.Code fault) = Refusal.Decode fault
+of_decode DecodeFault.NoMemory = Refusal.NoMemory
 
 -- refusals that need no cause in the bytes
 abbrev pub IsFree : Refusal → Type 0

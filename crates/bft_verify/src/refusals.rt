@@ -53,3 +53,31 @@ impl From<NoMemory> for Refusal {
         Refusal::NoMemory
     }
 }
+
+impl From<DecodeFault> for Refusal {
+    ghost use Rattle.bft_verify.specs.Answers.{of_decode};
+
+    ghost from_gives = { λ fault e. e ≡ of_decode fault };
+
+    fn from(fault: DecodeFault) -> Refusal {
+        match fault {
+            DecodeFault::Code(fault) => Refusal::Decode(fault),
+            DecodeFault::NoMemory => Refusal::NoMemory,
+        }
+    }
+}
+
+impl From<Misfit> for Refusal {
+    ghost use Rattle.bft_verify.specs.Sound.{of_misfit};
+
+    ghost from_gives = { λ misfit e. e ≡ of_misfit misfit };
+
+    fn from(misfit: Misfit) -> Refusal {
+        match misfit {
+            Misfit::Stranger { part } => Refusal::Stranger { part },
+            Misfit::BadShape { part } => Refusal::BadShape { part },
+            Misfit::BadCert { part } => Refusal::BadCert { part },
+            Misfit::WrongDigest { part } => Refusal::WrongDigest { part },
+        }
+    }
+}

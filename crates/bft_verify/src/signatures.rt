@@ -6,7 +6,7 @@ ghost use Rattle.fab_rules.specs.Spelling.{content_of};
 ghost use Rattle.fab_rules.specs.Statements.{signer_of};
 ghost use Rattle.bft_msg.specs.Passing.{Clears};
 ghost use Rattle.bft_verify.specs.Answers.{IsFree};
-ghost use Rattle.bft_verify.specs.Sound.{signature_refusals};
+ghost use Rattle.bft_verify.specs.Sound.{refused_of};
 
 use crate::refusals::Refusal;
 use crate::ring::Keyring;
@@ -38,7 +38,7 @@ impl Signatures<'_> {
         content: &[u8],
         signature: &Bytes,
     ) -> Result<(), Refusal>
-        ensures { Clears IsFree (signature_refusals self.now.ring.now part (Some who) content.now signature.now) result }
+        ensures { Clears IsFree (refused_of self.now.ring.now part (Some who) content.now signature.now) result }
     {
         match self.ring.key(who) {
             Some(key) => match verify(key, content, signature.as_slice()) {
@@ -61,7 +61,7 @@ impl Signatures<'_> {
     ) -> Result<(), Refusal>
         requires spelled { IsTrue (fits message.now) }
         requires signed { IsTrue (is_some (signer_of message.now)) }
-        ensures { Clears IsFree (signature_refusals self.now.ring.now 0 (Some (Who.Replica signer)) (content_of message.now) signature.now) result }
+        ensures { Clears IsFree (refused_of self.now.ring.now 0 (Some (Who.Replica signer)) (content_of message.now) signature.now) result }
     {
         let content = content(self.alloc, message)?;
         self.judge(0, Who::Replica(signer), content.as_slice(), signature)
@@ -72,13 +72,13 @@ impl<'a> Check for Signatures<'a> {
     ghost use Rattle.std.specs.Prelude.{◌≡◌, true};
     ghost use Rattle.fab_rules.specs.Format.{fields_fit};
     ghost use Rattle.bft_verify.specs.Answers.{IsFree};
-    ghost use Rattle.bft_verify.specs.Sound.{unsigned_at};
+    ghost use Rattle.bft_verify.specs.Sound.{signature_refusals};
 
     type Fault = Refusal;
 
     ghost may = { λ s p. fields_fit p ≡ true };
 
-    ghost wrong = { λ s. unsigned_at s.ring.now };
+    ghost wrong = { λ s. signature_refusals s.ring.now };
 
     ghost free = { IsFree };
 

@@ -1,4 +1,3 @@
-use Rattle.std.proofs.Common.{subst}
 use Rattle.std.proofs.lemmas.Result.{err_from_is_err_and}
 use Rattle.bft_msg.proofs.Passes.{leads_first, leads_at, leads_room, leads_able, leads_on, leads_out, leads_end}
 use Rattle.bft_msg.proofs.rolls.walk_all.Goals as goal
