@@ -50,6 +50,12 @@ for backend in llvm rattle; do
   judge 'the longest script' 0 '' "$(cat "$work/empty_report")"
   printf 'clutser 4\n' | "$program" plain >"$work/report" 2>"$work/error"; status=$?
   judge 'a bad line' 6 'script line 1: BadWord' ''
+  printf 'cluster\t4\n' | "$program" plain >"$work/report" 2>"$work/error"; status=$?
+  judge 'a tab' 6 'script line 1: BadWord' ''
+  printf '\357\273\277cluster 4\n' | "$program" plain >"$work/report" 2>"$work/error"; status=$?
+  judge 'a byte order mark' 6 'script line 1: BadWord' ''
+  { printf 'cluster 1\nclient 1\n'; yes 'request 0 get a' | head -n 33; } | "$program" plain >"$work/report" 2>"$work/error"; status=$?
+  judge 'the 33rd request' 6 'script line 35: TooMany' ''
   : >"$work/report"
   "$program" plain <"$work/script" >&- 2>"$work/error"; status=$?
   judge 'a closed output' 4 'write fault' ''
@@ -57,4 +63,4 @@ for backend in llvm rattle; do
   judge 'a full output' 4 'write fault' ''
 done
 echo "$passed passed, $failed failed"
-[ "$failed" = 0 ] && [ "$passed" = 22 ]
+[ "$failed" = 0 ] && [ "$passed" = 28 ]
