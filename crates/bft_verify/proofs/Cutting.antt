@@ -1,6 +1,6 @@
 -- A list cut into rows: what passes a test in the list passes it in each row.
 use Rattle.std.specs.List.{list_all}
-use Rattle.std.proofs.Common.{◌≡◌, ℕ, zero, suc, Bool, true, ◌&&◌, List, [], ◌∷◌, take, drop, refl}
+use Rattle.std.proofs.Common.{◌≡◌, ℕ, zero, suc, Bool, true, List, [], ◌∷◌, take, drop, refl}
 use Rattle.fab_base.proofs.Tests.{and_left, and_right, and_both}
 use Rattle.bft_verify.specs.Rows.{rows}
 

@@ -10,11 +10,10 @@ use Rattle.fab_rules.specs.Statements.{signer_of, parts_of}
 use Rattle.fab_rules.specs.Shape.{misfits, numbered, IsShaped}
 use Rattle.lms_tree.specs.declared.public.Public.{Public}
 use Rattle.lms_tree.specs.declared.faults.SigFault.{SigFault}
-use Rattle.lms_tree.specs.Verdict.{verdict, Valid}
+use Rattle.lms_tree.specs.Verdict.{verdict}
 use Rattle.lms_tree.proofs.ValidityLemmas.{valid_from_verdict, verdict_from_valid}
-use Rattle.bft_verify.specs.declared.refusals.Refusal.{Refusal}
 use Rattle.bft_verify.specs.Ring.{Ring, key_of}
-use Rattle.bft_verify.specs.Sound.{signature_of, verdict_under, refused, refused_of, signature_refusals, of_misfit, refusals, IsSound, IsSignedBy, AreSigned}
+use Rattle.bft_verify.specs.Sound.{signature_of, verdict_under, refused, refused_of, signature_refusals, of_misfit, IsSound, IsSignedBy, AreSigned}
 
 -- ---- lists without a refusal
 

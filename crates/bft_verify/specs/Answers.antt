@@ -1,5 +1,5 @@
 -- What is answered to bytes (ours).
-use Rattle.std.specs.Prelude.{◌≡◌, ◌⊎◌, ℕ, List, Result, Ok, Err}
+use Rattle.std.specs.Prelude.{◌≡◌, ◌⊎◌, Result, Ok, Err}
 use Rattle.fab_base.specs.Limits.{Roster}
 use Rattle.fab_base.specs.declared.messages.Message.{Message}
 use Rattle.fab_codec.specs.declared.faults.CodeFault.{CodeFault}

@@ -31,13 +31,7 @@ pub(crate) struct Signatures<'a> {
 
 impl Signatures<'_> {
     /// Whether a part's signature is one of this content under its signer's key. Takes no memory.
-    fn judge(
-        &self,
-        part: u32,
-        who: Who,
-        content: &[u8],
-        signature: &Bytes,
-    ) -> Result<(), Refusal>
+    fn judge(&self, part: u32, who: Who, content: &[u8], signature: &Bytes) -> Result<(), Refusal>
         ensures { Clears IsFree (refused_of self.now.ring.now part (Some who) content.now signature.now) result }
     {
         match self.ring.key(who) {
@@ -53,12 +47,7 @@ impl Signatures<'_> {
     }
 
     /// The same of a message that a replica signed and that stands in no other.
-    fn alone(
-        &self,
-        message: &Message,
-        signer: ReplicaId,
-        signature: &Bytes,
-    ) -> Result<(), Refusal>
+    fn alone(&self, message: &Message, signer: ReplicaId, signature: &Bytes) -> Result<(), Refusal>
         requires spelled { IsTrue (fits message.now) }
         requires signed { IsTrue (is_some (signer_of message.now)) }
         ensures { Clears IsFree (refused_of self.now.ring.now 0 (Some (Who.Replica signer)) (content_of message.now) signature.now) result }

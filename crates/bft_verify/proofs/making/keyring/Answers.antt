@@ -3,7 +3,6 @@ use Rattle.std.specs.List.{list_all}
 use Rattle.fab_base.proofs.Tests.{and_both}
 use Rattle.lms_tree.specs.declared.public.Public.{Public}
 use Rattle.bft_verify.specs.Ring.{is_fabric_key}
-use Rattle.bft_verify.specs.Rows.{rows}
 use Rattle.bft_verify.proofs.Cutting.{all_of_rows}
 use Rattle.bft_verify.proofs.making.keyring.Goals as goal
 
