@@ -1,8 +1,9 @@
 #!/usr/bin/env bash
-# Refuses each allocation of the program in turn, on the script of five requests: it has to end with status 10 and nothing written, or
-# with the right report. Outside the gate: it needs a C compiler, for the allocator that refuses.
+# Refuses each allocation of the program in turn, on a script that leaves an empty table and on one that leaves entries: it has to end
+# with status 10 and nothing written, or with the right report. It fails where a script ran without one refusal that ended the program.
+# Outside the gate: it needs a C compiler, for the allocator that refuses.
 set -u
-top=$(cd "$(dirname "${BASH_SOURCE[0]}")/.." && pwd)
+top=$(cd "$(dirname "$(readlink -f "${BASH_SOURCE[0]}")")/.." && pwd)
 work=$(mktemp -d)
 trap 'rm -rf "$work"' EXIT
 
@@ -67,21 +68,32 @@ passed=0
 failed=0
 for backend in llvm rattle; do
   program=$("$top/tests/program.sh" "$backend") || exit 1
-  CALLS=$work/calls LD_PRELOAD=$work/refuse.so "$program" plain <"$top/examples/first_steps.script" >/dev/null
-  calls=$(cat "$work/calls")
-  for ((n = 1; n <= calls + 1; n++)); do
-    REFUSE=$n LD_PRELOAD=$work/refuse.so "$program" plain <"$top/examples/first_steps.script" >"$work/report" 2>"$work/error"
-    status=$?
-    if [ "$status" = 10 ] && [ ! -s "$work/report" ] && [ "$(cat "$work/error")" = "no memory" ]; then
-      passed=$((passed + 1))
-    elif [ "$status" = 0 ] && cmp -s "$work/report" "$top/examples/first_steps.report"; then
-      passed=$((passed + 1))
-    else
+  for name in first_steps settlement_day; do
+    script=$top/examples/$name.script
+    report=$top/examples/$name.report
+    : >"$work/calls"
+    CALLS=$work/calls LD_PRELOAD=$work/refuse.so "$program" plain <"$script" >/dev/null
+    calls=$(cat "$work/calls")
+    refused=0
+    for ((n = 1; n <= ${calls:-0} + 1; n++)); do
+      REFUSE=$n LD_PRELOAD=$work/refuse.so "$program" plain <"$script" >"$work/report" 2>"$work/error"
+      status=$?
+      if [ "$status" = 10 ] && [ ! -s "$work/report" ] && [ "$(cat "$work/error")" = "no memory" ]; then
+        passed=$((passed + 1))
+        refused=$((refused + 1))
+      elif [ "$status" = 0 ] && cmp -s "$work/report" "$report"; then
+        passed=$((passed + 1))
+      else
+        failed=$((failed + 1))
+        echo "failed: allocation $n refused on $name, by $backend: status $status"
+      fi
+    done
+    echo "$name by $backend: $calls allocations, $refused refusals that ended it"
+    if [ "$refused" = 0 ]; then
       failed=$((failed + 1))
-      echo "failed: allocation $n refused, by $backend: status $status"
+      echo "failed: nothing was refused on $name, by $backend"
     fi
   done
-  echo "$calls allocations by $backend"
 done
 echo "$passed passed, $failed failed"
 [ "$failed" = 0 ]
