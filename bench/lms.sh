@@ -7,12 +7,18 @@
 # Timed in one run beside `openssl speed` and Bouncy Castle, and only reported.
 set -u
 top=$(cd "$(dirname "$0")/.." && pwd)
+program=$top/crates/lms_bench/out/lms_bench
 passed=0
 failed=0
 check() {
     if [ "$2" = yes ]; then passed=$((passed + 1)); echo "ok: $1"; else failed=$((failed + 1)); echo "FAILED: $1"; fi
 }
-if ! program=$("$top/tests/program.sh" llvm lms_bench); then
+# Built anew where it isn't there or is older than its sources.
+stale=$(find "$top"/crates/lmots_core/src "$top"/crates/lms_tree/src "$top"/crates/lms_bench/src -newer "$program" 2>/dev/null)
+if [ ! -x "$program" ] || [ -n "$stale" ]; then
+    (cd "$top/crates/lms_bench" && rt run -- 5 0 0 >/dev/null 2>&1 </dev/null)
+fi
+if [ ! -x "$program" ]; then
     echo "FAILED: lms_bench could not be built"
     echo "0 passed, 1 failed"
     exit 1

@@ -1,9 +1,8 @@
 #!/usr/bin/env bash
-# Refuses each allocation of the program in turn, on a script that leaves an empty table and on one that leaves entries: it has to end
-# with status 10 and nothing written, or with the right report. It fails where a script ran without one refusal that ended the program.
-# Outside the gate: it needs a C compiler, for the allocator that refuses.
+# Refuses each allocation of the program in turn, on a script of five requests and on one whose table has entries: it has to end with
+# status 10 and nothing written, or with the right report. Outside the gate: it needs a C compiler, for the allocator that refuses.
 set -u
-top=$(cd "$(dirname "$(readlink -f "${BASH_SOURCE[0]}")")/.." && pwd)
+top=$(cd "$(dirname "${BASH_SOURCE[0]}")/.." && pwd)
 work=$(mktemp -d)
 trap 'rm -rf "$work"' EXIT
 
@@ -70,28 +69,27 @@ for backend in llvm rattle; do
   program=$("$top/tests/program.sh" "$backend") || exit 1
   for name in first_steps settlement_day; do
     script=$top/examples/$name.script
-    report=$top/examples/$name.report
-    : >"$work/calls"
+    rm -f "$work/calls"
     CALLS=$work/calls LD_PRELOAD=$work/refuse.so "$program" plain <"$script" >/dev/null
-    calls=$(cat "$work/calls")
-    refused=0
-    for ((n = 1; n <= ${calls:-0} + 1; n++)); do
+    calls=$(cat "$work/calls" 2>/dev/null || echo 0)
+    refusals=0
+    for ((n = 1; n <= calls + 1; n++)); do
       REFUSE=$n LD_PRELOAD=$work/refuse.so "$program" plain <"$script" >"$work/report" 2>"$work/error"
       status=$?
       if [ "$status" = 10 ] && [ ! -s "$work/report" ] && [ "$(cat "$work/error")" = "no memory" ]; then
         passed=$((passed + 1))
-        refused=$((refused + 1))
-      elif [ "$status" = 0 ] && cmp -s "$work/report" "$report"; then
+        refusals=$((refusals + 1))
+      elif [ "$status" = 0 ] && cmp -s "$work/report" "$top/examples/$name.report"; then
         passed=$((passed + 1))
       else
         failed=$((failed + 1))
-        echo "failed: allocation $n refused on $name, by $backend: status $status"
+        echo "failed: allocation $n of $name refused, by $backend: status $status"
       fi
     done
-    echo "$name by $backend: $calls allocations, $refused refusals that ended it"
-    if [ "$refused" = 0 ]; then
+    echo "$name by $backend: $calls allocations, $refusals ended without memory"
+    if [ "$refusals" = 0 ]; then
       failed=$((failed + 1))
-      echo "failed: nothing was refused on $name, by $backend"
+      echo "failed: nothing was refused of $name by $backend"
     fi
   done
 done

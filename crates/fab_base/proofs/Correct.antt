@@ -1,6 +1,6 @@
 -- Among more members than may be faulty there is a correct one.
 use Rattle.std.proofs.Common.{◌≡◌, ℕ, ◌+◌, ◌≤◌, ◌<◌, Bool, true, false, ◌&&◌, not, List, refl, arith}
-use Rattle.fab_base.specs.Quorums.{greatest_faulty, AreMembers, IsQuorum, is_member, count_members}
+use Rattle.fab_base.specs.Quorums.{greatest_faulty, AreMembers, IsQuorum, is_member, count_members, CorrectMember}
 use Rattle.fab_base.proofs.Counting.{without, some_member, length-le_members}
 
 both_pass : (a b : Bool) → (a && not b) ≡ true → (a ≡ true) × (b ≡ false)
@@ -8,13 +8,7 @@ both_pass true true h = cc
 both_pass true false h = (refl, refl)
 both_pass false b h = cc
 
--- a member of the set that doesn't pass a test which at most f members pass
-pub record CorrectMember (n : ℕ) (is_faulty : ℕ → Bool) (members : List ℕ) : Type 0 where
-  pub index : ℕ
-  pub in_range : index < n
-  pub is_in : is_member members index ≡ true
-  pub not_faulty : is_faulty index ≡ false
-
+-- among more members than may be faulty one is correct
 pub correct_member : (n : ℕ) (is_faulty : ℕ → Bool) (members : List ℕ) → count_members n is_faulty ≤ greatest_faulty n
     → AreMembers n (greatest_faulty n + 1) members → CorrectMember n is_faulty members
 correct_member n is_faulty members few enough =

@@ -1,6 +1,7 @@
 pub mod Bytes
 pub mod Correct
 pub mod Counting
+pub mod Digests
 pub mod Entries
 pub mod Stamps
 pub mod Tests

@@ -1,3 +1,4 @@
+pub mod Digests
 pub mod Fields
 pub mod Limits
 pub mod Quorums

@@ -1,6 +1,6 @@
 -- How many members of a cluster may be faulty, and what a quorum of them is (Castro and Liskov, PBFT).
 -- A set of members is the list of their indexes, which rise.
-use Rattle.std.specs.Prelude.{ℕ, ◌+◌, ◌-◌, ◌/◌, ◌<◌, ◌≤◌, ◌==◌, Bool, true, false, List, [], ◌∷◌, length, filter}
+use Rattle.std.specs.Prelude.{ℕ, ◌≡◌, ◌+◌, ◌-◌, ◌/◌, ◌<◌, ◌≤◌, ◌==◌, Bool, true, false, List, [], ◌∷◌, length, filter}
 use Rattle.std.specs.List.{list_any}
 use Rattle.std.proofs.Common.{zero, suc}
 
@@ -43,3 +43,10 @@ one_if false = 0
 abbrev pub count_members : ℕ → (ℕ → Bool) → ℕ
 count_members zero p = 0
 count_members (suc n) p = one_if (p n) + count_members n p
+
+-- a member of the set that isn't faulty
+pub record CorrectMember (n : ℕ) (is_faulty : ℕ → Bool) (members : List ℕ) : Type 0 where
+  pub index : ℕ
+  pub in_range : index < n
+  pub is_in : is_member members index ≡ true
+  pub not_faulty : is_faulty index ≡ false

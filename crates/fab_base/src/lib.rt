@@ -4,9 +4,11 @@
 //! that replicas and clients send). Every list in a message is a `Rows`, which a contract sees as a list, so that a whole message is
 //! plain data there and `≡` is equality of contents.
 //!
-//! Two definitions stand in `specs/` for all crates above, and nowhere else: `Quorums` (how many members may be faulty, how many
-//! make a quorum, and what a quorum is) and `Table` (the sequential table: what a list of requests means when they are applied one
-//! after another). `quorum_law` is the fact on which every agreement rests: two quorums share more members than may be faulty.
+//! Definitions stand in `specs/` for all crates above, and nowhere else: `Limits` (the members of a fabric within its limits, which
+//! `limits.rt` names), `Fields` (what fits a field), `Quorums` (how many members may be faulty, how many make a quorum, and what a
+//! quorum is) and `Table` (the sequential table: what a list of requests means when they are applied one after another).
+//! `quorum_law` is the fact on which every agreement rests: two quorums share more members than may be faulty; and
+//! `correct_member_law` the other: among more members than may be faulty one is correct.
 //!
 //! Nothing here decides anything, and only `members`, `share` and the copies take memory.
 #![tactic(auto)]
@@ -20,8 +22,6 @@ mod messages;
 mod quorums;
 mod requests;
 mod roster;
-#[cfg(test)]
-mod tests;
 
 pub use answers::{Answer, Item, Take, Targets};
 pub use fab_rows::{Bytes, Duplicate, Entries, NoMemory, Numbers, Rows};
@@ -36,6 +36,6 @@ pub use messages::{
     Ask, CommitCert, Message, NewView, Note, NoteLine, NoteLines, Plea, PrePrepare, PreparedCert,
     PreparedCerts, StableVote, StableVotes, ViewChange, ViewChanges, Vote, Votes,
 };
-pub use quorums::{faults, primary, quorum, quorum_law};
+pub use quorums::{correct_member_law, faults, primary, quorum, quorum_law};
 pub use requests::{Batch, Op, Outcome, Outcomes, Reply, Request};
 pub use roster::{Contents, Members};

@@ -1,6 +1,6 @@
 //! How many replicas of a cluster may be faulty, and how many make a quorum (PBFT).
-ghost use Rattle.std.specs.Prelude.{◌≡◌, ℕ, ◌+◌, ◌*◌, ◌%◌, ◌<◌, ◌≤◌, List};
-ghost use Rattle.fab_base.specs.Quorums.{greatest_faulty, quorum_size, AreMembers, IsQuorum, shared_members};
+ghost use Rattle.std.specs.Prelude.{◌≡◌, ℕ, ◌+◌, ◌*◌, ◌%◌, ◌<◌, ◌≤◌, Bool, List};
+ghost use Rattle.fab_base.specs.Quorums.{greatest_faulty, quorum_size, AreMembers, IsQuorum, shared_members, count_members, CorrectMember};
 
 /// The greatest number f of faulty members that a cluster of `n` bears: the greatest with n > 3f (PBFT).
 pub fn faults(n: u8) -> u8
@@ -34,4 +34,12 @@ pub fn primary(view: u64, n: u8) -> u8
 pub fn quorum_law()
     ensures { (n : ℕ) (xs ys : List ℕ) → 1 ≤ n → IsQuorum n xs → IsQuorum n ys
         → AreMembers n (greatest_faulty n + 1) (shared_members xs ys) }
+{}
+
+/// Of more members than may be faulty, one at least is correct, where no more are faulty than a cluster of `n` bears (PBFT). So what
+/// f + 1 members say a correct one says, and a quorum has a correct member.
+pub fn correct_member_law()
+    ensures enough { (n : ℕ) (is_faulty : ℕ → Bool) (members : List ℕ) → count_members n is_faulty ≤ greatest_faulty n
+        → AreMembers n (greatest_faulty n + 1) members → CorrectMember n is_faulty members }
+    ensures quorum { (n : ℕ) (members : List ℕ) → 1 ≤ n → IsQuorum n members → AreMembers n (greatest_faulty n + 1) members }
 {}

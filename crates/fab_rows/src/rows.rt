@@ -91,6 +91,14 @@ impl<T> Rows<T> {
     {
         self.items.push(item)
     }
+
+    /// Adds the items of another list at the end, in their order. Where memory is refused, both lists stay as they were.
+    pub fn append(&mut self, more: &mut Rows<T>) -> Result<(), NoMemory>
+        ensures ok { OnOk result ((self.new ≡ self.old ++ more.old) × (more.new ≡ [])) }
+        ensures err { OnErr result ((self.new ≡ self.old) × (more.new ≡ more.old)) }
+    {
+        self.items.append(&mut more.items)
+    }
 }
 
 impl<T: Duplicate> Rows<T> {

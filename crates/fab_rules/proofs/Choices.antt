@@ -7,21 +7,13 @@ use Rattle.std.proofs.lemmas.Bool.Decides.{nat_tests}
 use Rattle.fab_base.specs.declared.messages.PreparedCert.{PreparedCert}
 use Rattle.fab_base.specs.declared.messages.ViewChange.{ViewChange}
 use Rattle.fab_base.specs.declared.messages.NewView.{NewView}
+use Rattle.fab_base.proofs.Tests.{same, are_same, below}
 use Rattle.fab_rules.specs.Lists.{In, first_of, greatest}
 use Rattle.fab_rules.specs.Choice.{certificates_of, base, top, certificates_for, of_greatest_view, deciding, IsDecided, better}
 use Rattle.fab_rules.proofs.Lists.{in_map, of_map, in_filter, of_filter, first_is_in, le_greatest}
 
-eq_true : (a b : ℕ) → a ≡ b → nat_eq a b ≡ true
-eq_true a b h = grind (arith, nat_tests)
-
-eq_from_true : (a b : ℕ) → nat_eq a b ≡ true → a ≡ b
-eq_from_true a b h = grind (arith, nat_tests)
-
 eq_false : (a b : ℕ) → a < b → nat_eq a b ≡ false
 eq_false a b h = grind (arith, nat_tests)
-
-lt_from_true : (a b : ℕ) → nat_lt a b ≡ true → a < b
-lt_from_true a b h = grind (arith, nat_tests)
 
 le_from_false : (a b : ℕ) → nat_lt a b ≡ false → b ≤ a
 le_from_false a b h = grind (arith, nat_tests)
@@ -66,10 +58,10 @@ first_some x (y ∷ xs) h = (y, refl)
 pub is_decided : (x : NewView) (slot : ℕ) (k : PreparedCert) → In k (certificates_of x) → k.slot ≡ slot → IsDecided x slot k
 is_decided x slot k h e =
     let ks : List PreparedCert = certificates_for x slot in
-    let of_slot = in_filter (λ c. nat_eq c.slot slot) k (certificates_of x) h (eq_true k.slot slot e) in
+    let of_slot = in_filter (λ c. nat_eq c.slot slot) k (certificates_of x) h (are_same k.slot slot e) in
     let best = of_greatest k ks of_slot in
     let view : ℕ = greatest (views ks) in
-    let is_best = in_filter (λ c. nat_eq c.view view) best.certificate ks best.is_in (eq_true best.certificate.view view best.view_is) in
+    let is_best = in_filter (λ c. nat_eq c.view view) best.certificate ks best.is_in (are_same best.certificate.view view best.view_is) in
     let first = first_some best.certificate (filter (λ c. nat_eq c.view view) ks) is_best in
     let at = of_filter (λ c. nat_eq c.view view) first.0 ks (first_is_in (filter (λ c. nat_eq c.view view) ks) first.0 first.1) in
     let from = of_filter (λ c. nat_eq c.slot slot) first.0 (certificates_of x) at.0 in
@@ -78,8 +70,8 @@ is_decided x slot k h e =
       certificate = first.0;
       deciding_is = first.1;
       inside = from.0;
-      slot_is = eq_from_true first.0.slot slot from.1;
-      no_older = omega (arith, most, eq_from_true first.0.view view at.1);
+      slot_is = same first.0.slot slot from.1;
+      no_older = omega (arith, most, same first.0.view view at.1);
     }
 
 pub le_base : (x : NewView) (c : ViewChange) → In c x.changes → c.low ≤ base x
@@ -117,7 +109,7 @@ skipped : (view : ℕ) (k : PreparedCert) (ks : List PreparedCert) → k.view < 
 skipped view k ks l = first_at_cons view k ks ∙ ap (λ t. cond t (Some k) (first_at view ks)) (eq_false k.view view l)
 
 taken : (view : ℕ) (k : PreparedCert) (ks : List PreparedCert) → k.view ≡ view → first_at view (k ∷ ks) ≡ Some k
-taken view k ks e = first_at_cons view k ks ∙ ap (λ t. cond t (Some k) (first_at view ks)) (eq_true k.view view e)
+taken view k ks e = first_at_cons view k ks ∙ ap (λ t. cond t (Some k) (first_at view ks)) (are_same k.view view e)
 
 -- a certificate in front of one of a later view decides nothing
 replaced : (b k : PreparedCert) (ks : List PreparedCert) → b.view < k.view → of_greatest_view (k ∷ ks) ≡ of_greatest_view (b ∷ k ∷ ks)
@@ -152,7 +144,7 @@ pass_from slot b (k ∷ ks) = go (pass_from slot b ks) (pass_from slot k ks) (na
     go : fold (better slot) (Some b) ks ≡ of_greatest_view (b ∷ of_slot slot ks)
         → fold (better slot) (Some k) ks ≡ of_greatest_view (k ∷ of_slot slot ks) → (t later : Bool) → nat_lt b.view k.view ≡ later
         → fold (better slot) (cond (t && later) (Some k) (Some b)) ks ≡ of_greatest_view (b ∷ cond t (k ∷ of_slot slot ks) (of_slot slot ks))
-    go same new true true e = new ∙ replaced b k (of_slot slot ks) (lt_from_true b.view k.view e)
+    go same new true true e = new ∙ replaced b k (of_slot slot ks) (below b.view k.view e)
     go same new true false e = same ∙ kept b k (of_slot slot ks) (le_from_false b.view k.view e)
     go same new false later e = same
 

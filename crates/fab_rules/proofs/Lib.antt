@@ -1,8 +1,13 @@
 pub mod Lists
 pub mod Parts
+pub mod Fitting
 pub mod Choices
 pub mod Digests
 pub mod Shapes
 pub mod Diaries
 pub mod Runs
-pub mod Growth
+pub mod Saying
+pub mod Chains
+pub mod Lengths
+pub mod Shares
+pub mod Growing

@@ -1,10 +1,10 @@
 -- What stands in a list: after appending, mapping, joining and filtering.
 use Rattle.std.proofs.Common.{◌≡◌, ℕ, zero, suc, ◌+◌, ◌<◌, ◌≤◌, Bool, true, false, cond, ◌||◌, eqb, List, [], ◌∷◌, ◌++◌, map, ◌⊎◌, inl, inr, refl, sym, ap, subst, ◌∙◌, arith, Some}
-use Rattle.std.specs.List.{filter, flat_map, range_with_len, Contains}
-use Rattle.std.proofs.lemmas.Bool.Decides.{nat_tests}
+use Rattle.std.specs.List.{filter, flat_map, list_all, range_with_len, Contains}
 use Rattle.std.proofs.Math.Nat.{eq-or-lt_of_le}
 use Rattle.std.proofs.lemmas.List.{append-nil, append_assoc}
 use Rattle.fab_base.specs.Quorums.{is_member}
+use Rattle.fab_base.proofs.Tests.{and_left, and_right, and_both, same}
 use Rattle.fab_rules.specs.Lists.{In, IsPrefixOf, first_of, greatest}
 
 -- ---- membership
@@ -76,6 +76,16 @@ of_filter p x (y ∷ xs) h = go (of_filter p x xs) (p y) refl h
     go rest true e (inr k) = let r = rest k in (inr r.0, r.1)
     go rest false e k = let r = rest k in (inr r.0, r.1)
 
+-- each item passes a test that all pass
+pub each_passes : {X : Type 0} (p : X → Bool) (xs : List X) (x : X) → list_all p xs ≡ true → In x xs → p x ≡ true
+each_passes p [] x e h = absurd h
+each_passes p (y ∷ xs) x e (inl s) = ap p (sym s) ∙ and_left (p y) (list_all p xs) e
+each_passes p (y ∷ xs) x e (inr h) = each_passes p xs x (and_right (p y) (list_all p xs) e) h
+
+pub all_pass : {X : Type 0} (p : X → Bool) (xs : List X) → ((x : X) → In x xs → p x ≡ true) → list_all p xs ≡ true
+all_pass p [] each = refl
+all_pass p (y ∷ xs) each = and_both (p y) (list_all p xs) (each y (inl refl)) (all_pass p xs (λ x h. each x (inr h)))
+
 pub in_range_with_len : (a n k : ℕ) → a ≤ k → k < a + n → In k (range_with_len a n)
 in_range_with_len a zero k l h = absurd (omega arith)
 in_range_with_len a (suc n) k l h =
@@ -86,15 +96,12 @@ of_range_with_len a zero k h = absurd h
 of_range_with_len a (suc n) k (inl e) = (omega arith, omega arith)
 of_range_with_len a (suc n) k (inr h) = let r = of_range_with_len (a + 1) n k h in (omega (arith, r.0), omega (arith, r.1))
 
-same_number : (a b : ℕ) → eqb a b ≡ true → a ≡ b
-same_number a b h = grind (arith, nat_tests)
-
 pub in_from_is_member : (xs : List ℕ) (k : ℕ) → is_member xs k ≡ true → In k xs
 in_from_is_member [] k h = cc
 in_from_is_member (x ∷ xs) k h = go (in_from_is_member xs k) (eqb x k) refl h
   where
     go : (is_member xs k ≡ true → In k xs) → (t : Bool) → eqb x k ≡ t → (t || is_member xs k) ≡ true → In k (x ∷ xs)
-    go rest true e q = inl (same_number x k e)
+    go rest true e q = inl (same x k e)
     go rest false e q = inr (rest q)
 
 -- std's word for membership speaks of the place

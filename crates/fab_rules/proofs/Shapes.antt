@@ -1,15 +1,13 @@
 -- What no misfit means: each fact of a shaped new view that the laws take.
 use Rattle.std.proofs.Common.{◌≡◌, ℕ, ◌+◌, ◌<◌, ◌≤◌, Bool, true, false, ◌&&◌, nat_eq, nat_lt, List, [], ◌∷◌, ◌++◌, length, map, inl, inr, refl, sym, ap, subst, ◌∙◌, arith, None}
-use Rattle.std.specs.List.{flat_map, list_all}
-use Rattle.std.specs.Str.{bytes_eq}
-use Rattle.std.proofs.lemmas.Slice.Eq.{bytes_eq-Decides}
+use Rattle.std.specs.List.{flat_map}
 use Rattle.std.proofs.lemmas.List.{length-map}
 use Rattle.std.proofs.lemmas.Bool.Decides.{nat_tests}
 use Rattle.fab_base.specs.Limits.{Roster}
+use Rattle.fab_base.specs.Digests.{same_digest}
 use Rattle.fab_base.specs.Quorums.{quorum_size, IsRisingFrom, IsQuorum}
 use Rattle.fab_base.specs.Roster.{is_cluster, is_replica, size_of}
 use Rattle.fab_base.specs.declared.ids.ReplicaId.{ReplicaId}
-use Rattle.fab_base.specs.declared.ids.Hash32.{Hash32}
 use Rattle.fab_base.specs.declared.messages.Vote.{Vote}
 use Rattle.fab_base.specs.declared.messages.PreparedCert.{PreparedCert}
 use Rattle.fab_base.specs.declared.messages.ViewChange.{ViewChange}
@@ -17,36 +15,16 @@ use Rattle.fab_base.specs.declared.messages.NewView.{NewView}
 use Rattle.fab_base.specs.declared.messages.Message.{Message}
 use Rattle.fab_rules.specs.declared.misfits.Misfit.{Misfit}
 use Rattle.fab_rules.specs.Lists.{In, first_of, leads_by, rises_by}
-use Rattle.fab_rules.specs.Format.{comes_before, certificate_fits, view_change_fits, view_changes_fit}
+use Rattle.fab_rules.specs.Format.{comes_before, view_changes_fit}
 use Rattle.fab_rules.specs.Digests.{batch_digest}
 use Rattle.fab_rules.specs.Statements.{parts_of}
-use Rattle.fab_rules.specs.Shape.{is_known, is_report_of, is_new_view, keeps_shape, same_digest, agrees_with, agree, bear_digest, is_prepared, unless, numbered, stranger_at, prepared_misfits, certificate_misfits, misfits_at, misfits, first_misfit, IsShaped}
+use Rattle.fab_rules.specs.Shape.{is_known, is_report_of, is_new_view, keeps_shape, agrees_with, agree, bear_digest, is_prepared, unless, numbered, stranger_at, prepared_misfits, certificate_misfits, misfits_at, misfits, first_misfit, IsShaped}
 use Rattle.fab_rules.specs.Quoted.{IsOlderCertificate, IsShownBy}
+use Rattle.fab_base.proofs.Tests.{and_left, and_right, below, same}
+use Rattle.fab_base.proofs.Digests.{is_same_digest}
+use Rattle.fab_rules.proofs.Lists.{each_passes}
+use Rattle.fab_rules.proofs.Fitting.{fields_are, votes_rise, certificate_votes_fit, each_certificate_fits, changes_are, changes_rise, each_change_fits}
 use Rattle.fab_rules.proofs.Parts.{change_is_part, prepare_is_part}
-
--- ---- tests
-
-and_left : (a b : Bool) → (a && b) ≡ true → a ≡ true
-and_left true b h = refl
-and_left false b h = cc
-
-and_right : (a b : Bool) → (a && b) ≡ true → b ≡ true
-and_right true b h = h
-and_right false b h = cc
-
-equal : (a b : ℕ) → nat_eq a b ≡ true → a ≡ b
-equal a b h = grind (arith, nat_tests)
-
-less : (a b : ℕ) → nat_lt a b ≡ true → a < b
-less a b h = grind (arith, nat_tests)
-
-same_hash : (d e : Hash32) → bytes_eq d.bytes e.bytes ≡ true → d ≡ e
-same_hash d e h = ap (λ x. record { bytes = x }) ((bytes_eq-Decides d.bytes e.bytes).0 h)
-
-each_passes : {X : Type 0} (p : X → Bool) (xs : List X) (x : X) → list_all p xs ≡ true → In x xs → p x ≡ true
-each_passes p [] x e h = absurd h
-each_passes p (y ∷ xs) x e (inl s) = ap p (sym s) ∙ and_left (p y) (list_all p xs) e
-each_passes p (y ∷ xs) x e (inr h) = each_passes p xs x (and_right (p y) (list_all p xs) e) h
 
 -- ---- lists of misfits that are empty
 
@@ -62,7 +40,7 @@ passes : (t : Bool) (x : Misfit) → unless t x ≡ [] → t ≡ true
 passes true x e = refl
 passes false x e = cc
 
-none_of_numbered : (f : ℕ → Message → List Misfit) (k : ℕ) (ps : List Message) (p : Message) → numbered f k ps ≡ [] → In p ps
+none_of_numbered : {X : Type 0} (f : ℕ → Message → List X) (k : ℕ) (ps : List Message) (p : Message) → numbered f k ps ≡ [] → In p ps
     → (j : ℕ) × (f j p ≡ [])
 none_of_numbered f k [] p e h = absurd h
 none_of_numbered f k (q ∷ ps) p e (inl s) = (k, ap (f k) (sym s) ∙ left_is_nil (f k q) (numbered f (k + 1) ps) e)
@@ -124,14 +102,14 @@ module _ {X : Type 0} (signer : X → ReplicaId) (n cluster : ℕ) where
       record { rising = rising 0 xs (begins_from_zero xs) each h; enough = omega (arith, length-map xs (λ x. (signer x).index), long) }
 
 member_index : (r : Roster) (i : ReplicaId) → is_replica r i ≡ true → i.index < size_of r i.cluster
-member_index r i h = less i.index (size_of r i.cluster) (and_right (is_cluster r i.cluster) (nat_lt i.index (size_of r i.cluster)) h)
+member_index r i h = below i.index (size_of r i.cluster) (and_right (is_cluster r i.cluster) (nat_lt i.index (size_of r i.cluster)) h)
 
 -- ---- a shaped new view
 
 agreed : (cluster : ℕ) (votes : List Vote) (v : Vote) → agree cluster votes ≡ true → In v votes → v.signer.cluster ≡ cluster
 agreed cluster [] v a h = absurd h
 agreed cluster (first ∷ rest) v a h =
-    equal v.signer.cluster cluster (and_left _ _ (and_left _ _ (and_left _ _ (each_passes (agrees_with cluster first) (first ∷ rest) v a h))))
+    same v.signer.cluster cluster (and_left _ _ (and_left _ _ (and_left _ _ (each_passes (agrees_with cluster first) (first ∷ rest) v a h))))
 
 module _ (r : Roster) (x : NewView) (shaped : IsShaped r (Message.NewView x)) where
   abbrev parts : List Message
@@ -153,16 +131,16 @@ module _ (r : Roster) (x : NewView) (shaped : IsShaped r (Message.NewView x)) wh
   begun = well_shaped (Message.NewView x) (inl refl)
 
   changes_fit : view_changes_fit x.changes ≡ true
-  changes_fit = and_left _ _ (and_left _ _ shaped.spelled)
+  changes_fit = changes_are x (fields_are (Message.NewView x) shaped.spelled)
 
   change_of_it : (c : ViewChange) → In c x.changes → (nat_eq c.signer.cluster x.signer.cluster && nat_eq c.view x.view) ≡ true
   change_of_it c h = each_passes (λ y. nat_eq y.signer.cluster x.signer.cluster && nat_eq y.view x.view) x.changes c (and_right _ _ begun) h
 
   cluster_is : (c : ViewChange) → In c x.changes → c.signer.cluster ≡ x.signer.cluster
-  cluster_is c h = equal c.signer.cluster x.signer.cluster (and_left _ _ (change_of_it c h))
+  cluster_is c h = same c.signer.cluster x.signer.cluster (and_left _ _ (change_of_it c h))
 
   view_is : (c : ViewChange) → In c x.changes → c.view ≡ x.view
-  view_is c h = equal c.view x.view (and_right _ _ (change_of_it c h))
+  view_is c h = same c.view x.view (and_right _ _ (change_of_it c h))
 
   certificate : (c : ViewChange) → In c x.changes → (k : PreparedCert) → In k c.prepared → IsOlderCertificate r x.signer.cluster x.view k
   certificate c h k q =
@@ -171,9 +149,9 @@ module _ (r : Roster) (x : NewView) (shaped : IsShaped r (Message.NewView x)) wh
       let fitting = none_of_joined (prepared_misfits r at.0 c.signer.cluster) c.prepared k (right_is_nil _ _ at.1) q in
       let prepared : is_prepared r c.signer.cluster k ≡ true = passes _ _ (left_is_nil _ _ fitting) in
       let digests : bear_digest k.batch k.votes ≡ true = passes _ _ (right_is_nil _ _ fitting) in
-      let change_fits = each_passes view_change_fits x.changes c (and_right _ _ (and_left _ _ changes_fit)) h in
-      let votes_rise = and_right _ _ (and_right _ _ (each_passes certificate_fits c.prepared k (and_right _ _ (and_left _ _ (and_left _ _ change_fits))) q)) in
-      let long : length k.votes ≡ quorum_size (size_of r c.signer.cluster) = equal _ _ (and_left _ _ (and_left _ _ prepared)) in
+      let certificate_is = each_certificate_fits c k (each_change_fits x.changes c changes_fit h) q in
+      let rise = votes_rise k.votes (certificate_votes_fit k certificate_is) in
+      let long : length k.votes ≡ quorum_size (size_of r c.signer.cluster) = same _ _ (and_left _ _ (and_left _ _ prepared)) in
       let from : (v : Vote) → In v k.votes → v.signer.cluster ≡ c.signer.cluster =
       λ v l. agreed c.signer.cluster k.votes v (and_right _ _ (and_left _ _ prepared)) l in
       let member : (v : Vote) → In v k.votes → IsMember (size_of r c.signer.cluster) c.signer.cluster v.signer =
@@ -182,17 +160,17 @@ module _ (r : Roster) (x : NewView) (shaped : IsShaped r (Message.NewView x)) wh
         in_range = subst (λ z. v.signer.index < size_of r z) (from v l) (member_index r v.signer (known (Message.Prepare v) (prepare_is_part x c k v h q l)));
       } in
       record {
-        older = subst (λ view. k.view < view) (view_is c h) (less k.view c.view (and_right _ _ reports));
+        older = subst (λ view. k.view < view) (view_is c h) (below k.view c.view (and_right _ _ reports));
         votes = record {
           quorum = subst (λ z. IsQuorum (size_of r z) (map (λ v. v.signer.index) k.votes)) (cluster_is c h)
-              (quorum_of (λ v. v.signer) (size_of r c.signer.cluster) c.signer.cluster k.votes member votes_rise long);
+              (quorum_of (λ v. v.signer) (size_of r c.signer.cluster) c.signer.cluster k.votes member rise long);
           members = λ v l. from v l ∙ cluster_is c h;
           equal = λ v l.
               (let at_slot = each_passes (λ y. nat_eq y.view k.view && nat_eq y.slot k.slot) k.votes v (and_right _ _ prepared) l in
               record {
-                view_is = equal v.view k.view (and_left _ _ at_slot);
-                slot_is = equal v.slot k.slot (and_right _ _ at_slot);
-                digest_is = same_hash v.digest (batch_digest k.batch) (each_passes (λ y. same_digest y.digest (batch_digest k.batch)) k.votes v digests l);
+                view_is = same v.view k.view (and_left _ _ at_slot);
+                slot_is = same v.slot k.slot (and_right _ _ at_slot);
+                digest_is = is_same_digest v.digest (batch_digest k.batch) (each_passes (λ y. same_digest y.digest (batch_digest k.batch)) k.votes v digests l);
               });
         };
       }
@@ -205,7 +183,7 @@ module _ (r : Roster) (x : NewView) (shaped : IsShaped r (Message.NewView x)) wh
               cluster_is = cluster_is c h;
               in_range = subst (λ z. c.signer.index < size_of r z) (cluster_is c h) (member_index r c.signer (known (Message.ViewChange c) (change_is_part x c h)));
             })
-            (and_right _ _ changes_fit) (equal _ _ (and_right _ _ (and_left _ _ begun)));
+            (changes_rise x.changes changes_fit) (same _ _ (and_right _ _ (and_left _ _ begun)));
         members = cluster_is;
         views = view_is;
         certificates = certificate;

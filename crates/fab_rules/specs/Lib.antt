@@ -9,6 +9,4 @@ pub mod Quoted
 pub mod Ledger
 pub mod Diary
 pub mod Rules
-pub mod World
-pub mod Safety
 pub mod Growth

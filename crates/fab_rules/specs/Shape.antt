@@ -1,11 +1,11 @@
 -- What is wrong with a message that has a spelling (ours): the numbered list of its misfits, in the order in which they are answered.
-use Rattle.std.specs.Prelude.{◌≡◌, ℕ, ◌+◌, ◌^◌, ◌%◌, Bool, true, false, ◌&&◌, ◌||◌, not, List, [], ◌∷◌, ◌++◌, length, Option, nat_le, nat_lt, nat_eq, IsTrue}
+use Rattle.std.specs.Prelude.{◌≡◌, ℕ, ◌+◌, ◌%◌, Bool, true, false, ◌&&◌, ◌||◌, not, List, [], ◌∷◌, ◌++◌, length, Option, nat_le, nat_lt, nat_eq, IsTrue}
 use Rattle.std.specs.List.{flat_map, list_all}
-use Rattle.std.specs.Str.{bytes_eq}
 use Rattle.fab_base.specs.Limits.{Roster}
+use Rattle.fab_base.specs.declared.limits.TheConstants.{GREATEST_NUMBER, GREATEST_COUNT}
 use Rattle.fab_base.specs.Quorums.{quorum_size}
+use Rattle.fab_base.specs.Digests.{same_digest}
 use Rattle.fab_base.specs.Roster.{is_cluster, is_replica, is_client, home_of, size_of}
-use Rattle.fab_base.specs.declared.ids.Hash32.{Hash32}
 use Rattle.fab_base.specs.declared.requests.Request.{Request}
 use Rattle.fab_base.specs.declared.messages.PrePrepare.{PrePrepare}
 use Rattle.fab_base.specs.declared.messages.Vote.{Vote}
@@ -41,19 +41,12 @@ is_known r (Message.Fetch x) = is_replica r x.asker && is_cluster r x.cluster
 
 -- ---- the fields of a part
 
--- the greatest view, slot, low mark and round
-abbrev pub greatest_number : ℕ
-greatest_number = 2 ^ 62
-
-abbrev pub greatest_count : ℕ
-greatest_count = 2 ^ 30
-
 abbrev pub is_view : ℕ → Bool
-is_view view = nat_le view greatest_number
+is_view view = nat_le view GREATEST_NUMBER
 
 -- a slot or a round
 abbrev pub is_slot : ℕ → Bool
-is_slot slot = nat_le 1 slot && nat_le slot greatest_number
+is_slot slot = nat_le 1 slot && nat_le slot GREATEST_NUMBER
 
 -- the clients of a cluster's batch have their home there
 abbrev pub is_batch_of : Roster → ℕ → List Request → Bool
@@ -82,7 +75,7 @@ is_empty_at_zero c = not (nat_eq c.low 0) || nat_eq (length c.proof) 0
 
 abbrev pub is_view_change : Roster → ViewChange → Bool
 is_view_change r c =
-    nat_le 1 c.view && is_view c.view && nat_le c.low greatest_number && is_empty_at_zero c && list_all (is_report_of r c) c.prepared
+    nat_le 1 c.view && is_view c.view && nat_le c.low GREATEST_NUMBER && is_empty_at_zero c && list_all (is_report_of r c) c.prepared
 
 -- a quorum's changes for the view
 abbrev pub is_new_view : Roster → NewView → Bool
@@ -92,7 +85,7 @@ is_new_view r x =
     list_all (λ c. nat_eq c.signer.cluster x.signer.cluster && nat_eq c.view x.view) x.changes
 
 abbrev pub is_plea : Plea → Bool
-is_plea p = is_slot p.round && nat_le p.count greatest_count && not (nat_eq p.target p.signer.cluster)
+is_plea p = is_slot p.round && nat_le p.count GREATEST_COUNT && not (nat_eq p.target p.signer.cluster)
 
 -- whether the part's own fields keep the rules of its kind
 abbrev pub keeps_shape : Roster → Message → Bool
@@ -110,9 +103,6 @@ keeps_shape r (Message.Share x) = is_batch_of r x.cluster x.batch
 keeps_shape r (Message.Fetch x) = is_slot x.round
 
 -- ---- certificates and proofs
-
-abbrev pub same_digest : Hash32 → Hash32 → Bool
-same_digest d e = bytes_eq d.bytes e.bytes
 
 -- exactly a quorum of the cluster's members
 abbrev pub is_quorum_of : {X : Type 0} → Roster → ℕ → List X → Bool
@@ -158,7 +148,7 @@ unless true x = []
 unless false x = x ∷ []
 
 -- what each part gives, in order, where the first part has this number
-abbrev pub numbered : (ℕ → Message → List Misfit) → ℕ → List Message → List Misfit
+abbrev pub numbered : {X : Type 0} → (ℕ → Message → List X) → ℕ → List Message → List X
 numbered f k [] = []
 numbered f k (p ∷ ps) = f k p ++ numbered f (k + 1) ps
 

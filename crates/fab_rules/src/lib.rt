@@ -9,21 +9,24 @@
 //!   laws take of a message in which nothing is wrong.
 //! - `Ledger`: the chain of a ledger, and its run through the sequential table.
 //! - `Diary`, `Rules`: what a replica heard, said and did, and the rules that an honest one keeps.
-//! - `World`, `Safety`: many diaries, who is faulty, the premises of the laws, and what they promise. `Growth`: diaries that grow.
+//! - `Growth`: diaries that grow.
 //!
-//! There is no slot table, tally, queue or lock in them, and no word of how a replica comes to keep its rules. Until statements are
-//! signed, a message is sound where it is shaped: signatures are a field that nothing judges.
+//! There is no slot table, tally, queue or lock in them, and no word of how a replica comes to keep its rules. Signatures are a field
+//! that nothing here judges.
 //!
-//! The two laws here are about the definitions alone: `choice_law` (the choice is what it says, and one pass finds it) and `shape_law`
-//! (what no misfit means). The laws of agreement stand in `world_laws`.
+//! The laws here are about the definitions alone: `choice_law` (the choice is what it says, and one pass finds it), `shape_law` (what
+//! no misfit means) and `rules_stay_kept_law` (what may be said may still be said once more was heard or done). Worlds of many diaries
+//! and the laws of agreement stand in `world_laws`.
 #![tactic(auto)]
 
 mod blocks;
 mod choice;
+mod growth;
 mod misfits;
 mod shape;
 
 pub use blocks::{Block, Blocks};
 pub use choice::choice_law;
+pub use growth::rules_stay_kept_law;
 pub use misfits::Misfit;
 pub use shape::shape_law;

@@ -1,5 +1,4 @@
-// Candidate keys (RFC 8554, section 4.6).
-
+//! Candidate keys (RFC 8554, section 4.6).
 ghost use Rattle.std.specs.Prelude.{◌≡◌, take, length};
 ghost use Rattle.std.specs.Int.{w32, to_be_bytes};
 ghost use Rattle.lmots_core.specs.Parameters.{type_code, signature_len};

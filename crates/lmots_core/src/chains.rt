@@ -1,5 +1,4 @@
-// Hash chains (RFC 8554, sections 4.3, 4.5 and 4.6, and appendix A).
-
+//! Hash chains (RFC 8554, sections 4.3, 4.5 and 4.6, and appendix A).
 ghost use Rattle.std.specs.Prelude.{◌≡◌, ◌-◌, ◌≤◌};
 ghost use Rattle.lmots_core.specs.Chains.{chain_step, chain, chain_start};
 

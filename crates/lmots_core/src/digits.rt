@@ -1,5 +1,4 @@
-// Winternitz digits and their checksum (RFC 8554, sections 3.1.3 and 4.4).
-
+//! Winternitz digits and their checksum (RFC 8554, sections 3.1.3 and 4.4).
 ghost use Rattle.std.specs.Prelude.{◌≡◌, ◌*◌, ◌<◌, length};
 ghost use Rattle.lmots_core.specs.Parameters.{width};
 ghost use Rattle.lmots_core.specs.Digits.{coef, checksum, with_checksum};

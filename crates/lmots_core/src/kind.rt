@@ -1,5 +1,4 @@
-// The parameter sets of RFC 8554, section 4.1.
-
+//! The parameter sets of RFC 8554, section 4.1.
 ghost use Rattle.std.specs.Prelude.{◌≡◌};
 
 /// A parameter set of LM-OTS with SHA-256 and n = 32 (RFC 8554, section 4.1). The number in the

@@ -1,5 +1,4 @@
-// What the definitions promise one another, for every kind.
-
+//! What the definitions promise one another, for every kind.
 ghost use Rattle.std.specs.Prelude.{ℕ, ◌≡◌, ◌*◌, ◌^◌, ◌<◌, List, length};
 ghost use Rattle.lmots_core.specs.declared.kind.OtsKind.{OtsKind};
 ghost use Rattle.lmots_core.specs.declared.seed.OtsSeed.{OtsSeed};

@@ -14,7 +14,8 @@
 //!
 //! Each call equals a definition of `specs/`, which restates the standard, one definition for all
 //! four kinds. That a signature's candidate is the public key is `candidate_is_public_key`. A key may sign one
-//! message only: no call here keeps count. Only `sign` takes memory.
+//! message only: no call here keeps count. Only `sign` takes memory; [`sign_in`] signs within room that
+//! was taken before, and cannot fail.
 #![tactic(auto)]
 
 mod candidates;
@@ -25,8 +26,6 @@ mod laws;
 mod public_keys;
 mod seed;
 mod signatures;
-#[cfg(test)]
-mod tests;
 
 pub use candidates::candidate;
 pub use digits::{checksum, coef};
@@ -34,5 +33,5 @@ pub use kind::OtsKind;
 pub use laws::{candidate_is_public_key, checksum_fits};
 pub use public_keys::public_of;
 pub use seed::OtsSeed;
-pub use signatures::sign;
+pub use signatures::{sign, sign_in};
 pub use std::alloc::AllocError as NoMemory;

@@ -1,5 +1,4 @@
-// One-time public keys (RFC 8554, section 4.3).
-
+//! One-time public keys (RFC 8554, section 4.3).
 ghost use Rattle.std.specs.Prelude.{◌≡◌, ◌++◌, [], ◌∷◌};
 ghost use Rattle.std.specs.Int.{w32, to_be_bytes};
 ghost use Rattle.sha2.specs.Hashers.{Holds256};

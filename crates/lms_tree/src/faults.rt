@@ -1,4 +1,4 @@
-// Why bytes are refused as a public key or as a signature.
+//! Why bytes are refused as a public key or as a signature.
 
 /// Why a public key or a signature is refused. RFC 8554 has the one answer INVALID for all of these;
 /// the names and their order are this project's own.

@@ -1,5 +1,4 @@
-// Fields of keys and signatures.
-
+//! Fields of keys and signatures.
 ghost use Rattle.std.specs.Prelude.{◌≡◌, ◌+◌, ◌≤◌, take, drop, length};
 ghost use Rattle.lms_tree.specs.Verdict.{number_at};
 

@@ -1,5 +1,4 @@
-// The parameter sets of RFC 8554, section 5.1.
-
+//! The parameter sets of RFC 8554, section 5.1.
 ghost use Rattle.std.specs.Prelude.{◌≡◌};
 
 /// A parameter set of LMS with SHA-256 and m = 32 (RFC 8554, section 5.1). The number in the name is

@@ -1,5 +1,4 @@
-// Keys with their trees.
-
+//! Keys with their trees.
 ghost use Rattle.std.specs.Prelude.{◌≡◌};
 
 use crate::heights::Height;

@@ -1,5 +1,4 @@
-// What the definitions promise one another.
-
+//! What the definitions promise one another.
 ghost use Rattle.std.specs.Prelude.{ℕ, ◌≡◌, ◌↔◌, ◌<◌, List, length};
 ghost use Rattle.lms_tree.specs.declared.public.Public.{Public};
 ghost use Rattle.lms_tree.specs.Heights.{leaf_count};

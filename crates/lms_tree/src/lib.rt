@@ -4,10 +4,13 @@
 //! half is the root. A signature by leaf q holds a one-time signature and the nodes beside the way
 //! from that leaf up to the root, so that whoever verifies can compute the root again.
 //!
-//! - [`make`] makes a [`Key`] with its tree, of height 5 or 10, and [`Key::public`] its [`Public`].
-//! - [`sign_leaf`] signs a content by one leaf. A leaf is to sign one content only; this call keeps no
+//! - [`make`] makes a [`Key`] with its tree, of height 5 or 10, and [`Key::public`] its [`Public`], which
+//!   tells how long its signatures are.
+//! - [`sign_leaf`] signs a content by one leaf, and [`sign_leaf_in`] does in a [`SignatureRoom`], memory that
+//!   was taken before, so that it cannot fail. A leaf is to sign one content only; these calls keep no
 //!   count.
-//! - [`Signer`] is what is promised of whoever keeps count: no leaf signs twice and none is skipped.
+//! - [`Signer`] is what is promised of whoever keeps count: no leaf signs twice, each signature is valid, and
+//!   after a refusal nothing has changed.
 //! - [`verify`] checks a signature under a public key of any of the five heights and four kinds, and
 //!   [`read_public`] and [`write_public`] take public keys from bytes and back.
 //!
@@ -26,11 +29,10 @@ mod making;
 mod nodes;
 mod paths;
 mod public;
+mod room;
 mod signers;
 mod signing;
 mod spelling;
-#[cfg(test)]
-mod tests;
 mod verifying;
 
 pub use fab_rows::NoMemory;
@@ -41,7 +43,8 @@ pub use laws::{leaf_signature_is_valid, verdict_is_valid};
 pub use lmots_core::{OtsKind, OtsSeed};
 pub use making::make;
 pub use public::Public;
+pub use room::SignatureRoom;
 pub use signers::{SignFault, Signer};
-pub use signing::sign_leaf;
+pub use signing::{sign_leaf, sign_leaf_in};
 pub use spelling::{read_public, write_public};
 pub use verifying::verify;

@@ -1,5 +1,4 @@
-// Making a key: the tree from its leaves to its root (RFC 8554, section 5.3 and appendix A).
-
+//! Making a key: the tree from its leaves to its root (RFC 8554, section 5.3 and appendix A).
 ghost use Rattle.std.specs.Prelude.{ℕ, ◌≡◌, ◌+◌, ◌*◌, ◌^◌, ◌<◌, ◌≤◌, [], length, slice_index_or, IfOk};
 ghost use Rattle.lmots_core.specs.OneTime.{public_key};
 ghost use Rattle.lms_tree.specs.Heights.{levels, leaf_count};

@@ -1,5 +1,4 @@
-// The hashes of the tree's nodes (RFC 8554, section 5.3).
-
+//! The hashes of the tree's nodes (RFC 8554, section 5.3).
 ghost use Rattle.std.specs.Prelude.{◌≡◌, ◌++◌};
 ghost use Rattle.std.specs.Int.{w32, to_be_bytes};
 ghost use Rattle.sha2.specs.Hashers.{Holds256};

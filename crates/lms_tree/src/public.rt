@@ -1,4 +1,6 @@
-// Public keys.
+//! Public keys.
+ghost use Rattle.std.specs.Prelude.{◌≡◌};
+ghost use Rattle.lms_tree.specs.Signatures.{tree_signature_len};
 
 use crate::heights::Height;
 use lmots_core::OtsKind;
@@ -14,4 +16,15 @@ pub struct Public {
     pub id: [u8; 16],
     /// T[1], the root of the tree.
     pub root: [u8; 32],
+}
+
+impl Public {
+    /// The length in bytes of each signature that is valid under this key (RFC 8554, section 5.4): 8
+    /// for the leaf and the type, those of the one-time signature, and 32 for each level of the tree.
+    /// It is 1,292 to 9,324, by the two types.
+    pub fn signature_len(&self) -> usize
+        ensures { result ≡ tree_signature_len self.now.ots self.now.height }
+    {
+        8 + self.ots.signature_len() + 32 * usize::from(self.height.levels())
+    }
 }

@@ -1,9 +1,9 @@
-// Whoever signs with a key and counts its leaves.
-
-ghost use Rattle.std.specs.Prelude.{ℕ, ◌≡◌, ◌↔◌, ◌+◌, ◌<◌, ◌≤◌, List, IsTrue, IfOk, OnErr, IfErr, MatchOption, ◌⊎◌, Err};
+//! Whoever signs with a key and counts its leaves.
+ghost use Rattle.std.specs.Prelude.{ℕ, ◌≡◌, ◌↔◌, ◌+◌, ◌<◌, ◌≤◌, List, length, IsTrue, IfOk, OnErr, IfErr, IfSome, MatchOption, ◌⊎◌, Err};
 ghost use Rattle.lms_tree.specs.declared.public.Public.{Public};
 ghost use Rattle.lms_tree.specs.declared.signers.SignFault.{SignFault};
 ghost use Rattle.lms_tree.specs.declared.signers.SignFault.TheVariants.{KeySpent, NoMemory};
+ghost use Rattle.lms_tree.specs.Signatures.{tree_signature_len};
 ghost use Rattle.lms_tree.specs.Verdict.{number_at, Valid};
 
 use crate::public::Public;
@@ -15,7 +15,7 @@ use std::alloc::AllocError;
 pub enum SignFault {
     /// All leaves of the key were used: so many.
     KeySpent { used: u32 },
-    /// Memory was refused. No leaf was used.
+    /// Memory was refused. No leaf was used and nothing was signed.
     NoMemory,
 }
 
@@ -27,12 +27,16 @@ impl From<AllocError> for SignFault {
     }
 }
 
-/// Who signs with the leaves of a key, one after another and none twice.
+/// Whoever signs with the leaves of a key and uses none of them twice.
 ///
 /// Every signer has a public key, a number of signatures that it can make in all, and for each number k
 /// below it the signature that it gives of a content as number k, from 0. None of these ever changes.
 /// What it gives is valid under its public key, and two numbers never share a leaf. So over any list of
 /// calls, each leaf signs at most one content.
+///
+/// A call that signs takes its memory first. After a refusal the signer is the one that it was, with
+/// whatever a contract sees of it, and nothing was given away; after a signature it says what a caller
+/// needs of it: that it is valid, how long it is, and that no more were made than the limit.
 pub trait Signer {
     // The public key.
     ghost key: { Self → Public };
@@ -59,9 +63,10 @@ pub trait Signer {
     fn spent(&self) -> bool
         ensures { IsTrue result ↔ (made self.now ≡ limit self.now) };
 
-    /// Signs two contents, one after the other, as two calls of `sign` would, but takes all memory
-    /// before a leaf is used. The second signature is `None` exactly where the first took the last
-    /// leaf. After a refusal no leaf was used.
+    /// Signs two contents, one after the other, as two calls of `sign` would, but takes the memory for
+    /// both signatures before the first is made. The second signature is `None` exactly where the first
+    /// took the last leaf. `KeySpent` comes exactly where every leaf was used. After a refusal no leaf
+    /// was used and nothing was signed.
     fn sign_both(
         &mut self,
         first: &[u8],
@@ -71,16 +76,24 @@ pub trait Signer {
         ensures first { IfOk result (λ both. both.0 ≡ gives self.old (made self.old) first.now) }
         ensures second { IfOk result (λ both. MatchOption both.1 ((made self.old + 1 ≡ limit self.old) × (made self.new ≡ made self.old + 1))
             (λ signature. (made self.old + 1 < limit self.old) × (signature ≡ gives self.old (made self.old + 1) second.now) × (made self.new ≡ made self.old + 2))) }
-        ensures refused { OnErr result (made self.new ≡ made self.old) }
+        ensures first_valid { IfOk result (λ both. Valid (key self.old) first.now both.0) }
+        ensures second_valid { IfOk result (λ both. IfSome both.1 (λ signature. Valid (key self.old) second.now signature)) }
+        ensures len { IfOk result (λ both. (length both.0 ≡ tree_signature_len (key self.old).ots (key self.old).height)
+            × IfSome both.1 (λ signature. length signature ≡ tree_signature_len (key self.old).ots (key self.old).height)) }
+        ensures within { made self.new ≤ limit self.old }
+        ensures refused { OnErr result (self.new ≡ self.old) }
         ensures spent { (made self.old ≡ limit self.old) ↔ (result ≡ Err (KeySpent (made self.old))) }
         ensures fault { IfErr result (λ fault. (fault ≡ NoMemory) ⊎ (fault ≡ KeySpent (made self.old))) };
 
-    /// Signs a content with the next leaf: the signature is number `used`. `KeySpent` comes exactly
-    /// where every leaf was used. After a refusal no leaf was used.
+    /// Signs a content as number `used`. `KeySpent` comes exactly where every leaf was used. After a
+    /// refusal no leaf was used and nothing was signed.
     fn sign(&mut self, content: &[u8]) -> Result<Bytes, SignFault>
         ensures same { (key self.new ≡ key self.old) × (limit self.new ≡ limit self.old) × (gives self.new ≡ gives self.old) }
         ensures signed { IfOk result (λ signature. (signature ≡ gives self.old (made self.old) content.now) × (made self.new ≡ made self.old + 1)) }
-        ensures refused { OnErr result (made self.new ≡ made self.old) }
+        ensures valid { IfOk result (λ signature. Valid (key self.old) content.now signature) }
+        ensures len { IfOk result (λ signature. length signature ≡ tree_signature_len (key self.old).ots (key self.old).height) }
+        ensures within { made self.new ≤ limit self.old }
+        ensures refused { OnErr result (self.new ≡ self.old) }
         ensures spent { (made self.old ≡ limit self.old) ↔ (result ≡ Err (KeySpent (made self.old))) }
         ensures fault { IfErr result (λ fault. (fault ≡ NoMemory) ⊎ (fault ≡ KeySpent (made self.old))) };
 

@@ -1,5 +1,4 @@
-// Public keys as bytes (RFC 8554, section 5.3).
-
+//! Public keys as bytes (RFC 8554, section 5.3).
 ghost use Rattle.std.specs.Prelude.{◌≡◌, ◌+◌, ◌≤◌, ◌++◌, length, take, IfOk};
 ghost use Rattle.lms_tree.specs.PublicKeys.{public_bytes, public_of_bytes};
 

@@ -1,5 +1,4 @@
-// Verifying a signature (RFC 8554, section 5.4.2).
-
+//! Verifying a signature (RFC 8554, section 5.4.2).
 ghost use Rattle.std.specs.Prelude.{◌≡◌, ◌↔◌, ◌<◌, length, IsOk};
 ghost use Rattle.lms_tree.specs.Heights.{levels, leaf_count};
 ghost use Rattle.lms_tree.specs.Signatures.{tree_signature_len};
@@ -11,7 +10,6 @@ use crate::fields::number_at;
 use crate::nodes::leaf_node;
 use crate::paths::climb;
 use crate::public::Public;
-use crate::signing::signature_len;
 use lmots_core::candidate;
 
 // The root under which a signature of the right form would be valid.
@@ -49,7 +47,7 @@ pub fn verify(key: &Public, content: &[u8], signature: &[u8]) -> Result<(), SigF
     if number_at(signature, 4) != key.ots.type_code() {
         return Err(SigFault::BadType);
     }
-    if signature.len() != signature_len(key.ots, key.height) {
+    if signature.len() != key.signature_len() {
         return Err(SigFault::BadLength);
     }
     if number_at(signature, 4 + key.ots.signature_len()) != key.height.type_code() {

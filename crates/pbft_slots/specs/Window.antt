@@ -1,6 +1,7 @@
 -- The slots that are open in one view: those above the low mark, as many as the window has.
-use Rattle.std.specs.Prelude.{◌≡◌, ◌≤◌, ℕ, ◌+◌, ◌-◌, List, ◌++◌, length, drop, min, replicate, nat_le, nat_lt, slice_get, slice_set, All, Option, Some, None, Result, Ok, Err, if◌then◌else◌}
+use Rattle.std.specs.Prelude.{◌≡◌, ◌≤◌, ℕ, ◌+◌, ◌-◌, List, [], ◌++◌, length, drop, min, replicate, nat_le, nat_lt, slice_get, slice_set, All, Option, Some, None, Result, Ok, Err, if◌then◌else◌}
 use Rattle.std.specs.Option.{option_map, option_and_then}
+use Rattle.fab_base.specs.declared.limits.TheConstants.{MOST_MEMBERS}
 use Rattle.fab_base.specs.declared.ids.Hash32.{Hash32}
 use Rattle.fab_base.specs.declared.requests.Request.{Request}
 use Rattle.fab_base.specs.declared.answers.Take.{Take}
@@ -17,10 +18,10 @@ pub record Window (K : Type 0) : Type 0 where
   pub members : ℕ
   pub slots : List (Slot K)
 
--- each slot has a place for each of the 1 to 10 members
+-- each slot has a place for each member
 pub record IsWindow {K : Type 0} (window : Window K) : Type 0 where
   pub some : 1 ≤ window.members
-  pub few : window.members ≤ 10
+  pub few : window.members ≤ MOST_MEMBERS
   pub wide : 1 ≤ length window.slots
   pub prepares : All (λ slot. length slot.prepares ≡ window.members) window.slots
   pub commits : All (λ slot. length slot.commits ≡ window.members) window.slots
@@ -116,3 +117,13 @@ IsPrepared {K} window slot digest = (s : Slot K) × (slot_at window slot ≡ Som
 
 abbrev pub IsCommitted : {K : Type 0} → Window K → ℕ → Hash32 → Type 0
 IsCommitted {K} window slot digest = (s : Slot K) × (slot_at window slot ≡ Some s) × IsAgreed window.members s.proposal s.commits digest
+
+-- why a slot isn't open, if it isn't
+abbrev pub refusal_by : Result ℕ Take → Option Take
+refusal_by (Err refused) = Some refused
+refusal_by (Ok place) = None
+
+-- the votes of one kind for a slot, none where it isn't open
+abbrev pub votes_in : {K : Type 0} → (Slot K → List (Option (Counted K))) → Option (Slot K) → List (Option (Counted K))
+votes_in kind None = []
+votes_in kind (Some slot) = kind slot

@@ -1,16 +1,16 @@
 //! The votes of one kind for one slot, prepares or commits: who voted for which digest, and what was kept of each counted vote.
-ghost use Rattle.std.specs.Prelude.{◌≡◌, ◌≤◌, ◌<◌, length, replicate, nat_le, None, IfOk};
+ghost use Rattle.std.specs.Prelude.{◌≡◌, ◌≤◌, ◌<◌, ◌↔◌, length, take, replicate, nat_le, None, IfOk, IsSome, IfSome};
 ghost use Rattle.std.specs.Option.{option_copied, option_map};
 ghost use Rattle.fab_base.specs.Quorums.{quorum_size};
 ghost use Rattle.vote_certs.specs.Counting.{value_of, with_value};
-ghost use Rattle.pbft_slots.specs.Ballots.{Counted, vote_answer, senders_for};
+ghost use Rattle.pbft_slots.specs.Ballots.{Counted, vote_answer, senders_for, kept_from, first_votes};
 
 use crate::NoMemory;
 use crate::digest::Digest;
-use fab_base::{Hash32, Take, quorum};
+use fab_base::{Duplicate, Hash32, MOST_MEMBERS, Rows, Take, quorum};
 use std::alloc::Global;
 use std::marker::Model;
-use vote_certs::{Added, Tally, tally};
+use vote_certs::{Added, Senders, Tally, tally};
 
 /// The votes of one kind for one slot of a cluster of 1 to 10 members: of each the first one counts, with what was kept of it.
 #[derive(Debug, Drop)]
@@ -62,7 +62,7 @@ fn empty_all<K: Drop>(places: &mut [Option<K>])
 impl<K: Drop> Ballots<K> {
     /// The ballots of `n` members, 1 to 10, of whom none voted.
     pub(crate) fn new(alloc: Global, n: u8) -> Result<Ballots<K>, NoMemory>
-        requires { (1 ≤ n) × (n ≤ 10) }
+        requires { (1 ≤ n) × (n ≤ MOST_MEMBERS) }
         ensures { IfOk result (λ b. b ≡ replicate n None) }
     {
         let digests = tally(alloc, n)?;
@@ -107,5 +107,40 @@ impl<K: Drop> Ballots<K> {
     {
         self.digests.clear();
         empty_all(&mut self.kept);
+    }
+
+    /// The first members that voted for the digest, as many as make a quorum: `None` exactly where there are fewer.
+    fn first_senders(&self, digest: Hash32) -> Option<Senders>
+        ensures enough { IsSome result ↔ (quorum_size (length self.now) ≤ length (senders_for self.now digest)) }
+        ensures first { IfSome result (λ s. s ≡ take (quorum_size (length self.now)) (senders_for self.now digest)) }
+    {
+        let need = quorum(self.kept.len() as u8);
+        self.digests.cert(need, &Digest { hash: digest })
+    }
+}
+
+impl<K: Duplicate> Ballots<K> {
+    /// Copies of what was kept of these members' votes.
+    fn copies(&self, alloc: Global, senders: &[u8]) -> Result<Rows<K>, NoMemory>
+        ensures { IfOk result (λ copies. copies ≡ kept_from self.now senders.now) }
+    {
+        let mut copies = Rows::new(alloc);
+        for sender in senders {
+            if let Some(kept) = self.kept(*sender) {
+                copies.push(kept.duplicate()?)?;
+            }
+        }
+        Ok(copies)
+    }
+
+    /// Copies of what was kept of the first votes for the digest, as many as make a quorum.
+    pub(crate) fn first_kept(&self, alloc: Global, digest: Hash32) -> Result<Rows<K>, NoMemory>
+        requires { quorum_size (length self.now) ≤ length (senders_for self.now digest) }
+        ensures { IfOk result (λ copies. copies ≡ first_votes (quorum_size (length self.now)) self.now digest) }
+    {
+        match self.first_senders(digest) {
+            Some(senders) => self.copies(alloc, senders.as_slice()),
+            None => Ok(Rows::new(alloc)),
+        }
     }
 }

@@ -1,13 +1,17 @@
 //! The slots that are open in a view, and the calls on them.
-ghost use Rattle.std.specs.Prelude.{◌≡◌, ◌≢◌, ◌≤◌, ◌<◌, ◌↔◌, Some, length, IfSome};
+ghost use Rattle.std.specs.Prelude.{◌≡◌, ◌≢◌, ◌≤◌, ◌<◌, ◌↔◌, Some, length, IfSome, IfOk};
 ghost use Rattle.std.specs.Option.{option_copied, option_map};
+ghost use Rattle.fab_base.specs.Quorums.{quorum_size};
 ghost use Rattle.fab_base.specs.declared.ids.Hash32.{Hash32};
-ghost use Rattle.pbft_slots.specs.Window.{IsWindow, place_in, slot_at, batch_at, prepare_at, commit_at, prepared_at, committed_at, IsPrepared, IsCommitted};
+ghost use Rattle.pbft_slots.specs.Ballots.{first_votes};
+ghost use Rattle.pbft_slots.specs.Window.{IsWindow, place_in, refusal_by, votes_in, slot_at, batch_at, prepare_at, commit_at, prepared_at, committed_at, IsPrepared, IsCommitted};
 ghost use Rattle.pbft_slots.specs.Window.{pre_prepare_answer, prepare_answer, commit_answer, after_pre_prepare, after_prepare, after_commit, moved_to};
 
+use crate::NoMemory;
 use crate::leaving::leave_first;
 use crate::slot::Slot;
-use fab_base::{Batch, Hash32, Take};
+use fab_base::{Batch, Duplicate, Hash32, Rows, Take};
+use std::alloc::Global;
 use std::marker::Model;
 
 /// The slots `low + 1` to `low + window` of one view of a cluster (PBFT). All are open at once, and what is heard of them comes in
@@ -143,6 +147,16 @@ impl<K: Drop> Slots<K> {
         self.at(slot)?.commits.kept(sender)
     }
 
+    /// Why the slot isn't open: `Old` or `Far` as in `pre_prepare`. `None` exactly where it is.
+    pub fn refusal(&self, slot: u64) -> Option<Take>
+        ensures { result ≡ refusal_by (place_in self.now slot) }
+    {
+        match self.place_of(slot) {
+            Ok(_) => None,
+            Err(refused) => Some(refused),
+        }
+    }
+
     /// Moves the low mark up. The slots above the new mark stay as they are, those up to it are forgotten, and as many are opened
     /// above, of which nothing was heard. Takes no memory.
     pub fn move_low(&mut self, low: u64)
@@ -154,9 +168,10 @@ impl<K: Drop> Slots<K> {
         self.low = low;
     }
 
-    /// The place of an open slot, or the answer for one that isn't.
-    fn place_of(&self, slot: u64) -> Result<usize, Take>
-        ensures { result ≡ place_in self.now slot }
+    /// The place of an open slot among the open ones, from 0, or the answer for one that isn't.
+    pub fn place_of(&self, slot: u64) -> Result<usize, Take>
+        ensures is { result ≡ place_in self.now slot }
+        ensures within { IfOk result (λ place. place < length self.now.slots) }
     {
         let width = self.slots.len() as u64;
         if slot <= self.low {
@@ -179,6 +194,42 @@ impl<K: Drop> Slots<K> {
         match self.place_of(slot) {
             Ok(place) => Some(&self.slots[place]),
             Err(_) => None,
+        }
+    }
+}
+
+impl<K: Duplicate> Slots<K> {
+    /// Copies of what was kept of the first prepares for a prepared slot's digest, by sender, as many as make a quorum: with the batch
+    /// they are PBFT's prepared certificate. It fails only where memory is refused.
+    pub fn first_prepares(
+        &self,
+        alloc: Global,
+        slot: u64,
+        digest: Hash32,
+    ) -> Result<Rows<K>, NoMemory>
+        requires { prepared_at self.now slot ≡ Some digest }
+        ensures { IfOk result (λ votes. votes ≡ first_votes (quorum_size self.now.members) (votes_in (λ s. s.prepares) (slot_at self.now slot)) digest) }
+    {
+        match self.at(slot) {
+            Some(slot) => slot.prepares.first_kept(alloc, digest),
+            None => Ok(Rows::new(alloc)),
+        }
+    }
+
+    /// Copies of what was kept of the first commits for a committed slot's digest, by sender, as many as make a quorum: with the batch
+    /// they are GeoBFT's commit certificate. It fails only where memory is refused.
+    pub fn first_commits(
+        &self,
+        alloc: Global,
+        slot: u64,
+        digest: Hash32,
+    ) -> Result<Rows<K>, NoMemory>
+        requires { committed_at self.now slot ≡ Some digest }
+        ensures { IfOk result (λ votes. votes ≡ first_votes (quorum_size self.now.members) (votes_in (λ s. s.commits) (slot_at self.now slot)) digest) }
+    {
+        match self.at(slot) {
+            Some(slot) => slot.commits.first_kept(alloc, digest),
+            None => Ok(Rows::new(alloc)),
         }
     }
 }

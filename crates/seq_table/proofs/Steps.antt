@@ -4,6 +4,7 @@ use Rattle.std.proofs.Math.ListN.{set}
 use Rattle.std.proofs.lemmas.Bool.Decides.{nat_tests}
 use Rattle.std.specs.Option.{IsSome}
 use Rattle.std.specs.Result.{OnOk}
+use Rattle.fab_base.specs.declared.limits.TheConstants.{LONGEST_VALUE}
 use Rattle.fab_base.specs.declared.requests.Request.{Request}
 use Rattle.std.specs.BTreeMap.{is_at}
 use Rattle.std.specs.Map.{set_value, keys_of}
@@ -14,7 +15,7 @@ use Rattle.fab_base.specs.declared.requests.Op.{Op}
 use Rattle.fab_base.specs.declared.requests.Op.TheVariants.{Put, Get, Cut, Swap}
 use Rattle.fab_base.specs.declared.requests.Outcome.TheVariants.{Done}
 use Rattle.fab_base.proofs.Entries.{value_in-with_value, with_value-same}
-use Rattle.seq_table.specs.Holding.{Held, Holding, state_of, entries_of, is_held, with_key, keys_after, HoldsShort, WritesShort, most_value_bytes}
+use Rattle.seq_table.specs.Holding.{Held, Holding, state_of, entries_of, is_held, with_key, keys_after, HoldsShort, WritesShort}
 use Rattle.seq_table.proofs.Pairs.{flat, there, value_there, is_held-there, none_there, ordered, entries_of-set_value, entries_of-push}
 
 -- ---- held keys
@@ -78,19 +79,19 @@ read_keys keys k (Some v) = refl
 
 -- ---- lengths
 
-short_by : (o : Option (List ℕ)) (b : Bool) (w : Option (List ℕ)) (v : List ℕ) → ((v : List ℕ) → w ≡ Some v → length v ≤ most_value_bytes) → ((v : List ℕ) → o ≡ Some v → length v ≤ most_value_bytes)
-    → cond b w o ≡ Some v → length v ≤ most_value_bytes
+short_by : (o : Option (List ℕ)) (b : Bool) (w : Option (List ℕ)) (v : List ℕ) → ((v : List ℕ) → w ≡ Some v → length v ≤ LONGEST_VALUE) → ((v : List ℕ) → o ≡ Some v → length v ≤ LONGEST_VALUE)
+    → cond b w o ≡ Some v → length v ≤ LONGEST_VALUE
 short_by o true w v h g e = h v e
 short_by o false w v h g e = g v e
 
-after_short : (o : Option (List ℕ)) (op : Op) → WritesShort op → ((v : List ℕ) → o ≡ Some v → length v ≤ most_value_bytes) → (v : List ℕ) → value_after o op ≡ Some v → length v ≤ most_value_bytes
-after_short o (Put k value) s h v e = let same : value ≡ v = cc in subst (λ (x : List ℕ). length x ≤ most_value_bytes) same s
+after_short : (o : Option (List ℕ)) (op : Op) → WritesShort op → ((v : List ℕ) → o ≡ Some v → length v ≤ LONGEST_VALUE) → (v : List ℕ) → value_after o op ≡ Some v → length v ≤ LONGEST_VALUE
+after_short o (Put k value) s h v e = let same : value ≡ v = cc in subst (λ (x : List ℕ). length x ≤ LONGEST_VALUE) same s
 after_short o (Get k) s h v e = h v e
 after_short o (Cut k) s h v e = let clash : None ≡ Some v = e in cc
 after_short o (Swap k expected fresh) s h v e = by (is_value o expected) e
   where
-    by : (b : Bool) → (if b then Some fresh else o) ≡ Some v → length v ≤ most_value_bytes
-    by true e = let same : fresh ≡ v = cc in subst (λ (x : List ℕ). length x ≤ most_value_bytes) same s
+    by : (b : Bool) → (if b then Some fresh else o) ≡ Some v → length v ≤ LONGEST_VALUE
+    by true e = let same : fresh ≡ v = cc in subst (λ (x : List ℕ). length x ≤ LONGEST_VALUE) same s
     by false e = h v e
 
 -- an operation that writes nothing too long leaves nothing too long

@@ -2,6 +2,7 @@
 use Rattle.std.specs.Prelude.{◌≡◌, ℕ, ◌≤◌, Bool, List, [], ◌∷◌, ◌++◌, Option, Some, length, if◌then◌else◌}
 use Rattle.std.specs.List.{list_any}
 use Rattle.std.specs.BTreeMap.{is_at}
+use Rattle.fab_base.specs.declared.limits.TheConstants.{LONGEST_VALUE}
 use Rattle.fab_base.specs.Table.{State, byte_order, value_in, with_value}
 use Rattle.fab_base.specs.declared.requests.Op.{Op}
 use Rattle.fab_base.specs.declared.requests.Op.TheVariants.{Put, Get, Cut, Swap}
@@ -40,17 +41,13 @@ abbrev pub keys_after : List (List ℕ) → Outcome → List ℕ → List (List 
 keys_after keys (Done Wrote) key = with_key keys key
 keys_after keys outcome key = keys
 
--- a value has at most this many bytes
-abbrev pub most_value_bytes : ℕ
-most_value_bytes = 64
-
 -- what the operation may write is not longer than a value may be
 abbrev pub WritesShort : Op → Type 0
-WritesShort (Put key value) = length value ≤ most_value_bytes
+WritesShort (Put key value) = length value ≤ LONGEST_VALUE
 WritesShort (Get key) = Unit {0}
 WritesShort (Cut key) = Unit {0}
-WritesShort (Swap key expected fresh) = length fresh ≤ most_value_bytes
+WritesShort (Swap key expected fresh) = length fresh ≤ LONGEST_VALUE
 
 -- no value is longer than a value may be
 abbrev pub HoldsShort : Held → Type 0
-HoldsShort held = (key value : List ℕ) → value_in (entries_of held) key ≡ Some value → length value ≤ most_value_bytes
+HoldsShort held = (key value : List ℕ) → value_in (entries_of held) key ≡ Some value → length value ≤ LONGEST_VALUE

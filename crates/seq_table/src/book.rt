@@ -31,7 +31,7 @@ impl Model for Table {
 }
 
 impl Table {
-    // A table that holds no key.
+    /// A table that holds no key.
     pub(crate) fn new(alloc: Global, stamps: Vec<u32>) -> Table
         ensures { result ≡ record { held = []; stamps = stamps.items } }
     {
@@ -66,9 +66,9 @@ impl Table {
         self.held.entries()
     }
 
-    /// Applies a request of one of the table's clients, whose value to write has at most 64 bytes. A stamp up to the client's last
-    /// one is answered `Again`, one beyond the next `Early`, and neither changes anything. The next stamp takes effect: the
-    /// operation is carried out and the stamp becomes the last.
+    /// Applies a request of one of the table's clients, whose value to write has at most `LONGEST_VALUE` bytes. A stamp up to the
+    /// client's last one is answered `Again`, one beyond the next `Early`, and neither changes anything. The next stamp takes effect:
+    /// the operation is carried out and the stamp becomes the last.
     ///
     /// It fails only where memory is refused, and then nothing has changed.
     pub fn apply(&mut self, request: &Request) -> Result<Outcome, NoMemory>
@@ -88,7 +88,7 @@ impl Table {
         Ok(Outcome::Done(reply))
     }
 
-    // The outcome of a request that doesn't take effect, or none where it is the client's next one.
+    /// The outcome of a request that doesn't take effect, or none where it is the client's next one.
     fn refusal(&self, request: &Request) -> Option<Outcome>
         requires { request.now.client.number < length self.now.stamps }
         ensures due { IfNone result (request.now.stamp ≡ last_of (state_of self.now) request.now.client.number + 1) }

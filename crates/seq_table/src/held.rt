@@ -145,7 +145,7 @@ impl Held {
         }
     }
 
-    // The reply that reads a key.
+    /// The reply that reads a key.
     fn read(&self, key: &[u8]) -> Result<Reply, NoMemory>
         ensures { IfOk result (λ reply. reply ≡ found (value_in (entries_of self.now) key.now)) }
     {
@@ -155,7 +155,7 @@ impl Held {
         }
     }
 
-    // Sets the key's value where it is the expected one, and else reads it.
+    /// Sets the key's value where it is the expected one, and else reads it.
     fn swap(&mut self, key: &[u8], expected: &Bytes, fresh: &Bytes) -> Result<Reply, NoMemory>
         ensures reply { IfOk result (λ reply. reply ≡ reply_at (value_in (entries_of self.old) key.now) (Swap key.now expected.now fresh.now)) }
         ensures state { OnOk result (entries_of self.new ≡ entries_after (entries_of self.old) (Swap key.now expected.now fresh.now)) }
@@ -173,7 +173,7 @@ impl Held {
     }
 }
 
-// What a reply says of a value, or of none.
+/// What a reply says of a value, or of none.
 fn reply_of(value: Option<Bytes>) -> Reply
     ensures { result ≡ found value }
 {
@@ -183,7 +183,7 @@ fn reply_of(value: Option<Bytes>) -> Reply
     }
 }
 
-// The entries of an ordered map, in its order.
+/// The entries of an ordered map, in its order.
 fn listed(alloc: Global, sorted: BTreeMap<Vec<u8>, Bytes>) -> Result<Entries, NoMemory>
     ensures { IfOk result (λ entries. entries ≡ map (λ e. (e.0.items, e.1)) sorted.entries) }
 {

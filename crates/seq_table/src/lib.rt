@@ -19,8 +19,6 @@ mod book;
 mod held;
 mod making;
 mod room;
-#[cfg(test)]
-mod tests;
 
 pub use book::Table;
 pub use fab_base::NoMemory;

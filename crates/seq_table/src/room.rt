@@ -1,15 +1,11 @@
 //! The memory that a batch needs.
 ghost use Rattle.std.specs.Prelude.{◌≡◌, ◌≤◌, [], length, vec_capacity, IfOk};
 ghost use Rattle.seq_table.specs.Batches.{value_written, values_written};
-ghost use Rattle.seq_table.specs.Holding.{most_value_bytes};
 
-use fab_base::{Batch, Bytes, NoMemory, Op, Outcome};
+use fab_base::{Batch, Bytes, LONGEST_VALUE, NoMemory, Op, Outcome};
 use std::alloc::Global;
 use std::collections::VecDeque;
 use std::marker::Model;
-
-// The greatest number of bytes of a value.
-const MOST_VALUE_BYTES: usize = 64;
 
 /// The memory for one request: a copy of the value that it may write, and room for one that it may answer.
 #[derive(Drop)]
@@ -20,13 +16,13 @@ pub struct Place {
 
 impl Model for Place {
     ghost use Rattle.std.specs.Prelude.{◌≡◌, ◌≤◌, [], ℕ, List, Option, vec_capacity};
-    ghost use Rattle.seq_table.specs.Holding.{most_value_bytes};
+    ghost use Rattle.fab_base.specs.declared.limits.TheConstants.{LONGEST_VALUE};
 
     ghost Value = { Option (List ℕ) };
 
     ghost view = { λ p. p.fresh };
 
-    ghost invariant = { λ p. (p.answer.items ≡ []) × (most_value_bytes ≤ vec_capacity p.answer) };
+    ghost invariant = { λ p. (p.answer.items ≡ []) × (LONGEST_VALUE ≤ vec_capacity p.answer) };
 }
 
 impl Place {
@@ -39,7 +35,7 @@ impl Place {
             Op::Swap { fresh, .. } => Some(fresh.copy()?),
             Op::Get { .. } | Op::Cut { .. } => None,
         };
-        let answer = Vec::with_capacity(alloc, MOST_VALUE_BYTES)?;
+        let answer = Vec::with_capacity(alloc, LONGEST_VALUE)?;
         Ok(Place { fresh, answer })
     }
 
@@ -52,7 +48,7 @@ impl Place {
 
     /// A copy of a value that is answered. It takes no memory.
     pub fn answer(self, value: &Bytes) -> Bytes
-        requires { length value.now ≤ most_value_bytes }
+        requires { length value.now ≤ LONGEST_VALUE }
         ensures { result ≡ value.now }
     {
         let Place { mut answer, .. } = self;
@@ -62,8 +58,8 @@ impl Place {
 }
 
 /// The memory that one batch needs, which `reserve` makes and `apply_batch` uses up: for each request a copy of the value that it may
-/// write and 64 bytes for one that it may answer, and a list with room for all the outcomes. Contracts see the values that may be
-/// written, by which a room is one for a batch.
+/// write and the bytes of the longest value for one that it may answer, and a list with room for all the outcomes. Contracts see the
+/// values that may be written, by which a room is one for a batch.
 #[derive(Drop)]
 pub struct Room {
     places: VecDeque<Place>,

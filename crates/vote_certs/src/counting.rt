@@ -5,7 +5,7 @@ ghost use Rattle.std.specs.List.Sorted.{IsStrictlyIncreasing};
 ghost use Rattle.vote_certs.specs.Counting.{value_of, with_value, is_this, senders_of};
 
 use crate::equality::Exact;
-use crate::senders::Senders;
+use crate::senders::{MOST_SENDERS, Senders};
 use std::marker::Model;
 
 /// What became of a value that was given to a tally.
@@ -22,7 +22,7 @@ pub enum Added<V> {
     },
 }
 
-/// The values of the 1 to 10 senders of a cluster, by index: of each the first one counts, as PBFT counts the statements of distinct
+/// The values of the 1 to `MOST_SENDERS` senders of a cluster, by index: of each the first one counts, as PBFT counts the statements of distinct
 /// replicas. A contract sees the list of the counted values, with `None` for a sender that gave none.
 #[derive(Debug, Drop)]
 pub struct Tally<V> {
@@ -31,12 +31,13 @@ pub struct Tally<V> {
 
 impl<V> Model for Tally<V> {
     ghost use Rattle.std.specs.Prelude.{List, Option, length, ◌≤◌};
+    ghost use Rattle.vote_certs.specs.declared.senders.TheConstants.{MOST_SENDERS};
 
     ghost Value = { List (Option V) };
 
     ghost view = { λ t. t.votes.items };
 
-    ghost invariant = { λ t. (1 ≤ length t.votes.items) × (length t.votes.items ≤ 10) };
+    ghost invariant = { λ t. (1 ≤ length t.votes.items) × (length t.votes.items ≤ MOST_SENDERS) };
 }
 
 /// Whether a value is counted here, and it is this one.
@@ -51,7 +52,7 @@ fn is_for<V: Exact>(vote: &Option<V>, value: &V) -> bool
 
 /// The first senders, at most so many, whose counted value is this one.
 fn first_senders<V: Exact>(votes: &[Option<V>], most: usize, value: &V) -> Senders
-    requires { length votes.now ≤ 10 }
+    requires { length votes.now ≤ MOST_SENDERS }
     ensures { result ≡ take most (senders_of V.eq votes.now value.now) }
 {
     let mut senders = Senders::new();
@@ -93,9 +94,7 @@ impl<V: Exact> Tally<V> {
     pub fn clear(&mut self)
         ensures { self.new ≡ replicate (length self.old) None }
     {
-        for vote in self.votes.iter_mut() {
-            *vote = None;
-        }
+        self.votes.fill(None);
     }
 
     /// The first `need` senders, by index, whose counted value is this one. It is `Some` exactly where there are at least so many, so

@@ -5,17 +5,15 @@ ghost use Rattle.std.specs.Prelude.{◌≡◌, ◌≤◌, IfOk, replicate, None}
 use crate::NoMemory;
 use crate::counting::Tally;
 use crate::equality::Exact;
+use crate::senders::MOST_SENDERS;
 use std::alloc::Global;
 
-/// A tally of `n` senders, 1 to 10, none of which has a counted value. It takes all the memory that the tally ever needs, and fails
-/// only where that is refused.
+/// A tally of `n` senders, 1 to `MOST_SENDERS`, none of which has a counted value. It takes all the memory that the tally ever needs,
+/// and fails only where that is refused.
 pub fn tally<V: Exact>(alloc: Global, n: u8) -> Result<Tally<V>, NoMemory>
-    requires { (1 ≤ n) × (n ≤ 10) }
+    requires { (1 ≤ n) × (n ≤ MOST_SENDERS) }
     ensures { IfOk result (λ t. t ≡ replicate n None) }
 {
-    let mut votes = Vec::with_capacity(alloc, n as usize)?;
-    for _ in 0..n {
-        votes.push(None)?;
-    }
+    let votes = vec![in alloc; None; usize::from(n)]?;
     Ok(Tally { votes })
 }

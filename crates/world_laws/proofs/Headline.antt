@@ -13,8 +13,8 @@ use Rattle.fab_rules.specs.Lists.{In}
 use Rattle.fab_rules.specs.Ledger.{start_of}
 use Rattle.fab_rules.specs.Diary.{Said, ledger}
 use Rattle.fab_rules.specs.Rules.{MayNote}
-use Rattle.fab_rules.specs.World.{World, member_of, IsWorld, AllHonest, FewFaulty, Unforged, NoClash, OneCertificate, common_ledger, IsRepeated}
-use Rattle.fab_rules.specs.Safety.{IsInOrder, IsReplyOf, AllIssued, IsSafe}
+use Rattle.world_laws.specs.World.{World, member_of, IsWorld, AllHonest, FewFaulty, Unforged, NoClash, OneCertificate, common_ledger, IsRepeated}
+use Rattle.world_laws.specs.Safety.{IsInOrder, IsReplyOf, AllIssued, IsSafe}
 use Rattle.fab_rules.proofs.Parts.{part_is_statement, request_is_part}
 use Rattle.fab_rules.proofs.Runs.{in_longer_run}
 use Rattle.fab_rules.proofs.Diaries.{kept}

@@ -4,3 +4,6 @@ pub mod Prefixes
 pub mod Once
 pub mod Headline
 pub mod LoneWorld
+pub mod Written
+pub mod BusyWorld
+pub mod PairWorld

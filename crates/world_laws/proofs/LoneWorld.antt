@@ -1,5 +1,5 @@
 -- The lone replica's world meets the premises of the headline.
-use Rattle.std.proofs.Common.{◌≡◌, ℕ, ◌≤◌, Bool, true, false, ◌&&◌, List, [], ◌∷◌, ◌++◌, length, nat_le, nat_lt, ◌⊎◌, inl, inr, refl, sym, ap, subst, ◌∙◌, arith, length-append}
+use Rattle.std.proofs.Common.{◌≡◌, ℕ, ◌≤◌, Bool, true, List, [], ◌∷◌, ◌++◌, length, nat_le, nat_lt, ◌⊎◌, inl, inr, refl, sym, ap, subst, ◌∙◌, arith, length-append}
 use Rattle.std.proofs.lemmas.Bool.Decides.{nat_tests}
 use Rattle.fab_base.specs.Quorums.{greatest_faulty, count_members}
 use Rattle.fab_base.specs.Roster.{is_cluster, is_replica, size_of}
@@ -9,38 +9,44 @@ use Rattle.fab_base.specs.declared.messages.Vote.{Vote}
 use Rattle.fab_base.specs.declared.messages.Message.{Message}
 use Rattle.fab_rules.specs.Lists.{In}
 use Rattle.fab_rules.specs.Spelling.{spelling_of}
-use Rattle.fab_rules.specs.Format.{fits}
+use Rattle.fab_rules.specs.Format.{digest_fits, vote_fits, fits}
 use Rattle.fab_rules.specs.Digests.{batch_digest}
 use Rattle.fab_rules.specs.Statements.{statements_of, batches_of}
 use Rattle.fab_rules.specs.Shape.{IsShaped}
 use Rattle.fab_rules.specs.Diary.{Entry, Heard, Said, PrepareHeard, CommitHeard, QuorumHeard}
 use Rattle.fab_rules.specs.Rules.{MaySay, WholeRounds, IsHonest}
-use Rattle.fab_rules.specs.World.{member_of, IsWorld, AllHonest, is_faulty, FewFaulty, IsMade, Unforged, IsKnown, NoClash}
+use Rattle.world_laws.specs.World.{member_of, IsWorld, AllHonest, is_faulty, FewFaulty, IsMade, Unforged, IsKnown, NoClash}
 use Rattle.world_laws.specs.LoneWorld.{lone, only, lone_proposal, lone_vote, lone_block, lone_diary, lone_world}
-use Rattle.fab_rules.proofs.Digests.{length-batch_digest}
+use Rattle.fab_base.specs.declared.limits.TheConstants.{LONGEST_MESSAGE}
+use Rattle.fab_base.proofs.Tests.{and_left, and_right, and_both, is_at_most}
+use Rattle.fab_rules.proofs.Digests.{length-batch_digest, batch_digest_fits}
 
 -- ---- its messages are shaped
 
-le_true : (a b : ℕ) → a ≤ b → nat_le a b ≡ true
-le_true a b l = grind (arith, nat_tests)
-
 is_short : (front bytes back : List ℕ) → length front ≤ 100 → length bytes ≡ 32 → length back ≤ 100
-    → nat_le (length (front ++ (bytes ++ back))) 16777216 ≡ true
+    → nat_le (length (front ++ (bytes ++ back))) LONGEST_MESSAGE ≡ true
 is_short front bytes back few long end =
-    le_true (length (front ++ (bytes ++ back))) 16777216
+    is_at_most (length (front ++ (bytes ++ back))) LONGEST_MESSAGE
     (omega (arith, length-append front (bytes ++ back), length-append bytes back, long, few))
 
 -- the bytes of a vote in front of its digest
 abbrev vote_front : ℕ → List ℕ
 vote_front tag = 1 ∷ tag ∷ 1 ∷ 0 ∷ 0 ∷ 0 ∷ 0 ∷ 0 ∷ 0 ∷ 0 ∷ 0 ∷ 0 ∷ 0 ∷ 0 ∷ 0 ∷ 0 ∷ 0 ∷ 0 ∷ 0 ∷ 1 ∷ []
 
+vote_is_within : vote_fits lone_vote ≡ true
+vote_is_within = and_both (digest_fits (batch_digest [])) true (batch_digest_fits []) refl
+
 prepare_is_spelled : fits (Message.Prepare lone_vote) ≡ true
 unfolding spelling_of
-prepare_is_spelled = is_short (vote_front 3) (batch_digest []).bytes (0 ∷ 0 ∷ []) (omega arith) (length-batch_digest []) (omega arith)
+prepare_is_spelled =
+    and_both (vote_fits lone_vote) _ vote_is_within
+    (is_short (vote_front 3) (batch_digest []).bytes (0 ∷ 0 ∷ []) (omega arith) (length-batch_digest []) (omega arith))
 
 commit_is_spelled : fits (Message.Commit lone_vote) ≡ true
 unfolding spelling_of
-commit_is_spelled = is_short (vote_front 4) (batch_digest []).bytes (0 ∷ 0 ∷ []) (omega arith) (length-batch_digest []) (omega arith)
+commit_is_spelled =
+    and_both (vote_fits lone_vote) _ vote_is_within
+    (is_short (vote_front 4) (batch_digest []).bytes (0 ∷ 0 ∷ []) (omega arith) (length-batch_digest []) (omega arith))
 
 proposal_is_spelled : fits (Message.PrePrepare lone_proposal) ≡ true
 unfolding spelling_of
@@ -74,21 +80,13 @@ by_heard P commit prepare proposal m (inr (inr (inr (inr (inr (inr (inr h)))))))
 
 -- ---- its one member
 
-and_left : (a b : Bool) → (a && b) ≡ true → a ≡ true
-and_left true b h = refl
-and_left false b h = cc
-
-and_right : (a b : Bool) → (a && b) ≡ true → b ≡ true
-and_right true b h = h
-and_right false b h = cc
-
-one_cluster : (c : ℕ) → is_cluster lone c ≡ true → c ≡ 1
+pub one_cluster : (c : ℕ) → is_cluster lone c ≡ true → c ≡ 1
 one_cluster c h = grind (arith, nat_tests)
 
 below_one : (k : ℕ) → nat_lt k 1 ≡ true → k ≡ 0
 below_one k h = grind (arith, nat_tests)
 
-is_only : (i : ReplicaId) → is_replica lone i ≡ true → only ≡ i
+pub is_only : (i : ReplicaId) → is_replica lone i ≡ true → only ≡ i
 is_only i h =
     let in_cluster : Bool = nat_lt i.index (size_of lone i.cluster) in
     let c = one_cluster i.cluster (and_left (is_cluster lone i.cluster) in_cluster h) in

@@ -11,7 +11,7 @@ use Rattle.fab_base.specs.Table.{State, last_of, outcome_of, outcomes_of, state_
 use Rattle.fab_base.proofs.Stamps.{last_of-state_after, done_raises}
 use Rattle.fab_rules.specs.Lists.{In}
 use Rattle.fab_rules.specs.Ledger.{run_from, lines_with, all_lines}
-use Rattle.fab_rules.specs.Safety.{IsDone, IsDoneOnce}
+use Rattle.world_laws.specs.Safety.{IsDone, IsDoneOnce}
 
 -- the lines of a list of requests
 abbrev lines_after : State → List Request → List NoteLine

@@ -13,8 +13,8 @@ use Rattle.fab_rules.specs.Lists.{In, IsPrefixOf}
 use Rattle.fab_rules.specs.Digests.{batch_digest}
 use Rattle.fab_rules.specs.Diary.{Entry, Heard, Said, Did, ledger, CommitHeard, QuorumHeard}
 use Rattle.fab_rules.specs.Rules.{WholeRounds, KeepsRules}
-use Rattle.fab_rules.specs.World.{World, member_of, IsCorrect, AllHonest, IsKnown, NoClash, OneCertificate, replicas_of, longest, common_ledger}
-use Rattle.fab_rules.specs.Safety.{IsInOrder}
+use Rattle.world_laws.specs.World.{World, member_of, IsCorrect, AllHonest, IsKnown, NoClash, OneCertificate, replicas_of, longest, common_ledger}
+use Rattle.world_laws.specs.Safety.{IsInOrder}
 use Rattle.fab_rules.proofs.Lists.{in_append_cases, in_map, of_map, in_flat_map, of_flat_map, in_filter, of_filter, in_range_with_len, of_range_with_len, prefix_refl, prefix_more}
 use Rattle.fab_rules.proofs.Diaries.{kept}
 

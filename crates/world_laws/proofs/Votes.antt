@@ -1,9 +1,9 @@
 -- Votes and who cast them: what a quorum's correct members said, from what was heard; and the statements that a new view quotes.
-use Rattle.std.proofs.Common.{◌≡◌, ℕ, ◌+◌, ◌<◌, Bool, true, false, ◌&&◌, nat_lt, List, [], map, inl, refl, ap, subst, ◌∙◌, arith}
-use Rattle.std.proofs.lemmas.Bool.Decides.{nat_tests}
+use Rattle.std.proofs.Common.{◌≡◌, ℕ, ◌+◌, ◌<◌, true, false, nat_lt, List, [], map, inl, refl, ap, subst, ◌∙◌}
 use Rattle.fab_base.specs.Quorums.{greatest_faulty, AreMembers, IsQuorum, is_member, shared_members}
 use Rattle.fab_base.specs.Roster.{is_cluster, size_of}
 use Rattle.fab_base.proofs.Counting.{quorums_meet}
+use Rattle.fab_base.proofs.Tests.{and_both, is_below}
 use Rattle.fab_base.proofs.Correct.{correct_member, quorum_is_enough}
 use Rattle.fab_base.specs.declared.ids.ReplicaId.{ReplicaId}
 use Rattle.fab_base.specs.declared.ids.Hash32.{Hash32}
@@ -16,7 +16,7 @@ use Rattle.fab_rules.specs.Lists.{In}
 use Rattle.fab_rules.specs.Digests.{batch_digest}
 use Rattle.fab_rules.specs.Quoted.{IsVoteFor, IsOlderCertificate, IsShownBy}
 use Rattle.fab_rules.specs.Diary.{Entry, Heard, Said, PrepareHeard, CommitHeard, QuorumHeard}
-use Rattle.fab_rules.specs.World.{World, member_of, IsCorrect, IsWorld, is_faulty, FewFaulty, Unforged, QuorumSaid}
+use Rattle.world_laws.specs.World.{World, member_of, IsCorrect, IsWorld, is_faulty, FewFaulty, Unforged, QuorumSaid}
 use Rattle.fab_rules.proofs.Lists.{of_map, of_filter, in_from_is_member}
 use Rattle.fab_rules.proofs.Parts.{part_is_statement, change_is_part, prepare_is_part}
 
@@ -25,17 +25,10 @@ use Rattle.fab_rules.proofs.Parts.{part_is_statement, change_is_part, prepare_is
 same_member : (i : ReplicaId) (cluster index : ℕ) → i.cluster ≡ cluster → i.index ≡ index → i ≡ member_of cluster index
 same_member i cluster index e f = ap (λ c. member_of c i.index) e ∙ ap (λ k. member_of cluster k) f
 
-both_true : (a b : Bool) → a ≡ true → b ≡ true → (a && b) ≡ true
-both_true true b e f = f
-both_true false b e f = cc
-
-lt_true : (a b : ℕ) → a < b → nat_lt a b ≡ true
-lt_true a b l = grind (arith, nat_tests)
-
 pub is_correct : (w : World) (c k : ℕ) → is_cluster w.roster c ≡ true → k < size_of w.roster c → is_faulty w c k ≡ false
     → IsCorrect w (member_of c k)
 is_correct w c k is_c l good =
-    record { takes_part = both_true (is_cluster w.roster c) (nat_lt k (size_of w.roster c)) is_c (lt_true k (size_of w.roster c) l); not_faulty = good }
+    record { takes_part = and_both (is_cluster w.roster c) (nat_lt k (size_of w.roster c)) is_c (is_below k (size_of w.roster c) l); not_faulty = good }
 
 -- a correct member of a set
 pub record CorrectIn (w : World) (c : ℕ) (members : List ℕ) : Type 0 where

@@ -16,7 +16,7 @@ use Rattle.fab_rules.specs.Choice.{batch_in, IsDecided}
 use Rattle.fab_rules.specs.Quoted.{IsShownBy}
 use Rattle.fab_rules.specs.Diary.{Entry, Heard, Said}
 use Rattle.fab_rules.specs.Rules.{IsOpenedFor, KeepsRules}
-use Rattle.fab_rules.specs.World.{World, member_of, IsCorrect, IsWorld, AllHonest, FewFaulty, Unforged, QuorumSaid, OnePrepared, OneCommitted, OneCertificate, InViewZero}
+use Rattle.world_laws.specs.World.{World, member_of, IsCorrect, IsWorld, AllHonest, FewFaulty, Unforged, QuorumSaid, OnePrepared, OneCommitted, OneCertificate, InViewZero}
 use Rattle.fab_rules.proofs.Choices.{is_decided, le_base, le_top}
 use Rattle.fab_rules.proofs.Lists.{of_map, in_flat_map, of_flat_map}
 use Rattle.fab_rules.proofs.Shapes.{shown}

@@ -1,2 +1,6 @@
+pub mod World
+pub mod Safety
 pub mod Examples
 pub mod LoneWorld
+pub mod BusyWorld
+pub mod PairWorld

@@ -8,7 +8,7 @@ use Rattle.fab_base.specs.declared.messages.Message.{Message}
 use Rattle.fab_rules.specs.declared.blocks.Block.{Block}
 use Rattle.fab_rules.specs.Digests.{batch_digest}
 use Rattle.fab_rules.specs.Diary.{Entry, Heard, Said, Did}
-use Rattle.fab_rules.specs.World.{World}
+use Rattle.world_laws.specs.World.{World}
 
 abbrev pub lone : Roster
 lone = record { sizes = 1 ∷ []; homes = []; window = 1; interval = 1; batch = 1 }

@@ -1,6 +1,6 @@
 //! The laws of agreement: within a cluster in view 0, across clusters, and the headline.
-ghost use Rattle.fab_rules.specs.World.{World, IsWorld, AllHonest, FewFaulty, Unforged, NoClash, OnePrepared, OneCommitted, OneCertificate, InViewZero};
-ghost use Rattle.fab_rules.specs.Safety.{IsSafe};
+ghost use Rattle.world_laws.specs.World.{World, IsWorld, AllHonest, FewFaulty, Unforged, NoClash, OnePrepared, OneCommitted, OneCertificate, InViewZero};
+ghost use Rattle.world_laws.specs.Safety.{IsSafe};
 
 /// Agreement in view 0 (PBFT, section 4.2): where no correct replica commits beyond view 0, two quorums of a cluster prepare one digest
 /// in a view and slot, and commit one digest in a slot.

@@ -1,16 +1,17 @@
 //! Why the ledgers of correct replicas can't disagree: the laws of the fabric, stated and proved over definitions alone.
 //!
-//! Start with `safety_law`, and read its words in `fab_rules`: a *world* is who takes part, who is faulty, what clients issued, and one
-//! diary for each replica; an *honest* diary keeps the rules of PBFT and GeoBFT; a *safe* world is one whose correct replicas agree.
+//! Start with `safety_law`, and read its words: a *world* is who takes part, who is faulty, what clients issued, and one diary for each
+//! replica (`specs/World`); an *honest* diary keeps the rules of PBFT and GeoBFT (in `fab_rules`); a *safe* world is one whose correct
+//! replicas agree (`specs/Safety`).
 //! Nothing here mentions a replica's code. A handler keeps its replica's diary honest, and then the laws hold of every run.
 //!
 //! - `view0_law`: inside a cluster, while nobody leaves view 0.
 //! - `clusters_law`: across clusters, given that each cluster commits one batch in a slot.
 //! - `safety_law`: both, across view changes. This is the headline.
-//! - `rules_stay_kept_law`: what a replica may say, it may still say after it heard or did more.
-//! - `world_example`: a world that meets the premises of the headline and has a block in its ledger.
-//! - `choice_examples`, `spelling_examples`, `parts_examples`, `misfit_examples`, `ledger_examples`: the definitions at work on small
-//!   cases.
+//! - `world_example`, `busy_world_example`, `pair_world_example`: worlds that meet the premises of the headline and have blocks in their
+//!   ledgers: a replica alone; one with a client, a reply, a checkpoint and a change of view; two clusters with a Share and pleas.
+//! - `choice_examples`, `spelling_examples`, `kinds_examples`, `null_digest_example`, `parts_examples`, `misfit_examples`,
+//!   `refusal_examples`, `ledger_examples`: the definitions at work on small cases.
 //!
 //! A law is a function without parameters and with an empty body: its contract is the law. The steps of the proof are lemmas under
 //! their names, in `proofs/`: `same_view`, `later_views` and `one_certificate` (`Voting`), `prefixes` (`Prefixes`), and what they
@@ -22,14 +23,11 @@
 
 mod agreement;
 mod examples;
-mod growth;
-#[cfg(test)]
-mod tests;
 mod worlds;
 
 pub use agreement::{clusters_law, safety_law, view0_law};
 pub use examples::{
-    choice_examples, ledger_examples, misfit_examples, parts_examples, spelling_examples,
+    choice_examples, kinds_examples, ledger_examples, misfit_examples, null_digest_example,
+    parts_examples, refusal_examples, spelling_examples,
 };
-pub use growth::rules_stay_kept_law;
-pub use worlds::world_example;
+pub use worlds::{busy_world_example, pair_world_example, world_example};

@@ -53,7 +53,7 @@ impl Table {
         Outcomes::from_vec(outcomes)
     }
 
-    // Applies a request in the memory that was taken for it.
+    /// Applies a request in the memory that was taken for it.
     fn apply_in(&mut self, request: &Request, place: Place) -> Outcome
         requires client { request.now.client.number < length self.old.stamps }
         requires short { WritesShort request.now.op }

@@ -22,7 +22,7 @@ impl Held {
         Ok(())
     }
 
-    // Holds the key that an operation may write.
+    /// Holds the key that an operation may write.
     fn hold_for(&mut self, op: &Op) -> Result<(), NoMemory>
         ensures ok { OnOk result (self.new ≡ held_for self.old op.now) }
         ensures err { OnErr result (self.new ≡ self.old) }
@@ -62,7 +62,7 @@ impl Held {
         }
     }
 
-    // Sets the key's value where it is the expected one, and else reads it.
+    /// Sets the key's value where it is the expected one, and else reads it.
     fn swap_in(&mut self, key: &[u8], expected: &Bytes, place: Place) -> Reply
         requires short { HoldsShort self.old }
         requires held { is_held (keys_of self.old) key.now ≡ true }

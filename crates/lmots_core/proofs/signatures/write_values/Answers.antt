@@ -9,7 +9,7 @@ use Rattle.lmots_core.proofs.signatures.write_values.Goals as goal
 pub loop-i-init : goal.loop-i-init
 loop-i-init c =
     let none = joined_none (signed_value c.args.kind c.args.seed.now c.args.q c.args.digits.now) in
-    (rw (none, append-nil) refl, omega arith)
+    (rw (none, append-nil) refl, omega arith, omega arith)
 
 pub loop-i-preserved : goal.loop-i-preserved
 loop-i-preserved c =
@@ -23,5 +23,6 @@ loop-i-preserved c =
       grown ∙ append_assoc c.args.into.now.items (joined y c.loop-i.i) c.chain-value.result
           ∙ ap (λ v. c.args.into.now.items ++ (joined y c.loop-i.i ++ v)) value
           ∙ ap (λ l. c.args.into.now.items ++ l) (sym (joined_more y c.loop-i.i)),
+      search rules,
       search rules,
     )

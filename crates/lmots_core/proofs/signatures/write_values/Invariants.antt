@@ -1,4 +1,4 @@
-use Rattle.std.proofs.Common.{◌≡◌, ◌+◌, ◌-◌, ◌*◌, ◌≤◌, ◌++◌, vec_len, vec_capacity}
+use Rattle.std.proofs.Common.{◌≡◌, ◌+◌, ◌*◌, ◌≤◌, ◌++◌, vec_len, vec_capacity}
 use Rattle.lmots_core.specs.Chains.{joined}
 use Rattle.lmots_core.specs.OneTime.{signed_value}
 use Rattle.lmots_core.proofs.signatures.write_values.Given as goal
@@ -6,4 +6,5 @@ use Rattle.lmots_core.proofs.signatures.write_values.Given as goal
 abbrev pub invariant-loop-i : goal.invariant-loop-i
 invariant-loop-i l =
     (l.into.items ≡ l.fn.into.items ++ joined (signed_value l.kind l.seed l.q l.digits) l.i)
-    × (vec_len l.into + 32 * (l.i-end - l.i) ≤ vec_capacity l.into)
+    × (vec_len l.into ≡ vec_len l.fn.into + 32 * l.i)
+    × (vec_capacity l.fn.into ≤ vec_capacity l.into)

@@ -1,0 +1,4 @@
+pub mod Inside
+pub mod Judged
+pub mod Passing
+pub mod Ready

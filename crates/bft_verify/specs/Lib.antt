@@ -1,0 +1,5 @@
+pub mod Admitted
+pub mod Answers
+pub mod Ring
+pub mod Rows
+pub mod Sound

@@ -1,0 +1,301 @@
+-- Hearing a proposal, a vote or a request keeps the relation, whatever it is answered.
+use Rattle.std.proofs.Common.{◌≡◌, ℕ, ◌<◌, ◌≤◌, Bool, true, false, not, cond, nat_le, nat_lt, nat_eq, List, [], ◌∷◌, ◌++◌, length, Option, Some, None, is_some, inl, inr, refl, sym, ap, subst, ◌∙◌, arith}
+use Rattle.std.specs.Option.{IsSome, option_map, option_and_then}
+use Rattle.std.proofs.lemmas.Bool.{cases_lt}
+use Rattle.std.proofs.lemmas.Bool.Decides.{nat_tests}
+use Rattle.fab_base.specs.Limits.{Roster}
+use Rattle.fab_base.specs.Digests.{same_digest}
+use Rattle.fab_base.specs.declared.ids.ReplicaId.{ReplicaId}
+use Rattle.fab_base.specs.declared.ids.Hash32.{Hash32}
+use Rattle.fab_base.specs.declared.requests.Request.{Request}
+use Rattle.fab_base.specs.declared.messages.Vote.{Vote}
+use Rattle.fab_base.specs.declared.messages.PrePrepare.{PrePrepare}
+use Rattle.fab_base.specs.declared.messages.Message.{Message}
+use Rattle.fab_base.specs.declared.answers.Answer.{Answer}
+use Rattle.fab_base.specs.declared.answers.Take.{Take}
+use Rattle.fab_base.proofs.Tests.{same}
+use Rattle.fab_rules.specs.Lists.{In}
+use Rattle.fab_rules.specs.Digests.{batch_digest}
+use Rattle.fab_rules.specs.Shape.{is_batch_of}
+use Rattle.fab_rules.specs.Diary.{Entry, Heard, Said}
+use Rattle.fab_rules.specs.Rules.{KeepsRules}
+use Rattle.fab_rules.proofs.Lists.{in_append_cases}
+use Rattle.pbft_slots.specs.declared.slot.Proposal.{Proposal}
+use Rattle.pbft_slots.specs.declared.slot.Slot.{Slot}
+use Rattle.pbft_slots.specs.Ballots.{Counted}
+use Rattle.pbft_slots.specs.Slots.{proposal_answer, first_proposal, with_proposal}
+use Rattle.pbft_slots.specs.Window.{Window, high, refusal_by, place_in, slot_at, proposal_at, prepared_at, pre_prepare_answer, prepare_answer, commit_answer, answer_by, after_pre_prepare, after_prepare, after_commit}
+use Rattle.pbft_slots.proofs.Places.{slot_here, slot_is_open, place_far, place_open}
+use Rattle.fab_machine.specs.State.{Local, wanted, wanted_by}
+use Rattle.fab_machine.specs.Items.{vote_of}
+use Rattle.fab_machine.specs.Voting.{vote_refusal, kept_by, refused, after_count, outs_after, prepare_told, commit_told, proposal_told, prepare_by, commit_by, proposal_by, hear_prepare, hear_commit, hear_proposal}
+use Rattle.fab_machine.specs.Requests.{request_answer, waiting_by, hear_request}
+use Rattle.fab_machine.specs.Step.{hear}
+use Rattle.fab_machine.specs.Relation.{IsKeptVote, IsHeldBatch, AreHeld, IsPast, AreLocal}
+use Rattle.fab_machine.proofs.Members.{IsMember}
+use Rattle.fab_machine.proofs.Shaped.{prepare_slot, commit_slot, proposal_slot, proposal_homes}
+use Rattle.fab_machine.proofs.Windows.{later_by_proposal, later_by_prepare, later_by_commit, IsThisVote, prepare_heard, commit_heard, proposal_heard, proposal_after_prepare, proposal_after_commit, commit_after_prepare, prepare_after_commit, prepare_after_proposal, commit_after_proposal}
+use Rattle.fab_machine.proofs.Waiting.{answered}
+use Rattle.fab_machine.proofs.Locals.{local_beside, local_later}
+use Rattle.fab_machine.proofs.Putting.{prepare_may, prepare_noted}
+use Rattle.fab_machine.proofs.Telling.{IsToldOf, told_nothing, unmoved_told, own, calm_view, told_put, told_counted, counted_still}
+
+-- ---- which messages are for the open slots of the view
+
+record IsForView (me : ReplicaId) (l : Local) (cluster view slot : ℕ) : Type 0 where
+  cluster_is : cluster ≡ me.cluster
+  above : l.slots.low < slot
+  view_is : view ≡ l.view
+  calm : l.changing ≡ None
+
+more_than : (a b : ℕ) → nat_le a b ≡ false → b < a
+more_than a b h = grind (arith, nat_tests)
+
+at_least : (a b : ℕ) → nat_lt a b ≡ false → b ≤ a
+at_least a b h = grind (arith, nat_tests)
+
+for_view : (me : ReplicaId) (l : Local) (cluster view slot : ℕ) → ((asked : ℕ) → l.changing ≡ Some asked → l.view < asked)
+    → vote_refusal me l cluster view slot ≡ None → IsForView me l cluster view slot
+for_view me l cluster view slot wants h =
+    go (nat_eq cluster me.cluster) (nat_le slot l.slots.low) (nat_lt view (wanted l)) (nat_lt l.view view) refl refl refl refl h
+  where
+    calm : (c : Option ℕ) → l.changing ≡ c → wanted_by c l.view ≤ view → view ≤ l.view → (view ≡ l.view) × (c ≡ None)
+    calm None e a b = (omega (arith, a, b), refl)
+    calm (Some asked) e a b = absurd (omega (arith, wants asked e, a, b))
+
+    go : (a b c d : Bool) → nat_eq cluster me.cluster ≡ a → nat_le slot l.slots.low ≡ b → nat_lt view (wanted l) ≡ c → nat_lt l.view view ≡ d
+        → cond (not a) (Some Take.Stray) (cond b (Some (Take.Old l.slots.low)) (cond c (Some (Take.OtherView (wanted l))) (cond d (Some (Take.Ahead l.view)) (refusal_by (place_in l.slots slot))))) ≡ None
+        → IsForView me l cluster view slot
+    go false b c d p q s t e = cc
+    go true true c d p q s t e = cc
+    go true false true d p q s t e = cc
+    go true false false true p q s t e = cc
+    go true false false false p q s t e =
+        let k = calm l.changing refl (at_least view (wanted l) s) (at_least l.view view t) in
+        record { cluster_is = same cluster me.cluster p; above = more_than slot l.slots.low q; view_is = k.0; calm = k.1 }
+
+-- ---- a message that isn't counted
+
+one_more : (full : List Entry) (kept : List Message) (m : Message) → In (Heard m) full → ((x : Message) → In x kept → In (Heard x) full)
+    → (x : Message) → In x (kept ++ m ∷ []) → In (Heard x) full
+one_more full kept m heard old x h =
+    elim (in_append_cases x kept (m ∷ []) h) [
+      | inl k ↦ old x k
+      | inr (inl e) ↦ subst (λ y. In (Heard y) full) e heard
+      | inr (inr none) ↦ absurd none
+    ]
+
+kept_heard : (full : List Entry) (how : Take) (kept : List Message) (m : Message) → In (Heard m) full → ((x : Message) → In x kept → In (Heard x) full)
+    → (x : Message) → In x (kept_by how kept m) → In (Heard x) full
+kept_heard full (Take.Ahead view) kept m heard old x h = one_more full kept m heard old x h
+kept_heard full (Take.Far high) kept m heard old x h = one_more full kept m heard old x h
+kept_heard full how kept m heard old x h = old x h
+
+refused_told : (r : Roster) (me : ReplicaId) (l : Local) (m : Message) (how : Take) (full : List Entry) → KeepsRules r me full → AreLocal r me l full
+    → In (Heard m) full → IsToldOf r me l (refused l m how) full
+refused_told r me l m how full rules are heard =
+    let now = kept_by how l.kept m in
+    let local = local_beside r me l l.next l.proposed l.waiting l.last l.executed now full (omega arith) (omega arith) are.waiting
+    (kept_heard full how l.kept m heard are.kept) are in
+    record {
+      told = told_nothing r me (record l { kept = now }) full rules local;
+      still = record { wanted_is = refl; executed_is = refl; last_is = refl };
+    }
+
+-- ---- a vote that is counted
+
+commits_before : (r : Roster) (me : ReplicaId) (l : Local) (full : List Entry) → AreLocal r me l full → (v : Vote) → In (Said (Message.Commit v)) full
+    → IsPast l v.view v.slot (IsSome (prepared_at l.slots v.slot))
+commits_before r me l full are v h = let n = are.noted (Message.Commit v) h in n.past
+
+-- the vote that was heard is kept under its own sender, view, slot and digest
+this_vote : (kind : Vote → Message) (me : ReplicaId) (l : Local) (full : List Entry) (v : Vote) (s i : ℕ) (c : Counted Vote) → In (Heard (kind v)) full
+    → IsForView me l v.signer.cluster v.view v.slot → IsThisVote v.signer.index v.slot s i (record { digest = v.digest; kept = v }) c
+    → IsKeptVote kind me full l.view s i c
+this_vote kind me l full v s i c heard for it =
+    let first : IsKeptVote kind me full l.view v.slot v.signer.index (record { digest = v.digest; kept = v }) = record {
+      heard = heard;
+      signer = ap (λ k. let x : ReplicaId = record { cluster = k; index = v.signer.index } in x) for.cluster_is;
+      votes_for = record { view_is = for.view_is; slot_is = refl; digest_is = refl };
+    } in
+    subst (λ d. IsKeptVote kind me full l.view s i d) (sym it.vote_is)
+    (subst (λ j. IsKeptVote kind me full l.view s j (record { digest = v.digest; kept = v })) (sym it.sender_is)
+    (subst (λ t. IsKeptVote kind me full l.view t v.signer.index (record { digest = v.digest; kept = v })) (sym it.slot_is) first))
+
+-- ---- a Prepare
+
+prepare_told_keeps : (r : Roster) (me : ReplicaId) (l : Local) (v : Vote) (full : List Entry) → IsMember r me → KeepsRules r me full
+    → AreLocal r me l full → In (Heard (Message.Prepare v)) full → IsForView me l v.signer.cluster v.view v.slot → (how : Take)
+    → IsToldOf r me l (prepare_told r me l v how) full
+prepare_told_keeps r me l v full is rules are heard for Take.Taken =
+    let w = l.slots in
+    let c : Counted Vote = record { digest = v.digest; kept = v } in
+    let now = after_prepare w v.signer.index v.slot c in
+    let later = later_by_prepare w v.signer.index v.slot c are.opened.window in
+    let held : AreHeld r me l.view now full = record {
+      proposals = λ s p h. are.held.proposals s p (proposal_after_prepare w v.signer.index v.slot s c p h);
+      prepares = λ s i d h. (elim (prepare_heard w v.signer.index v.slot s i c d h) [
+        | inl old ↦ are.held.prepares s i d old
+        | inr it ↦ this_vote Message.Prepare me l full v s i d heard for it
+      ]);
+      commits = λ s i d h. are.held.commits s i d (commit_after_prepare w v.signer.index v.slot s i c d h);
+    } in
+    record {
+      told = told_counted r me l now v.slot full is for.calm (prepare_slot r v (are.shaped (Message.Prepare v) heard)) refl
+          (commits_before r me l full are) rules (local_later r me l now full later held are);
+      still = counted_still l now v.slot;
+    }
+prepare_told_keeps r me l v full is rules are heard for how = unmoved_told r me l (Answer.Heard how) full rules are
+
+hear_prepare_keeps : (r : Roster) (me : ReplicaId) (l : Local) (v : Vote) (full : List Entry) → IsMember r me → KeepsRules r me full
+    → AreLocal r me l full → In (Heard (Message.Prepare v)) full → IsToldOf r me l (hear_prepare r me l v) full
+hear_prepare_keeps r me l v full is rules are heard = go (vote_refusal me l v.signer.cluster v.view v.slot) refl
+  where
+    go : (o : Option Take) → vote_refusal me l v.signer.cluster v.view v.slot ≡ o → IsToldOf r me l (prepare_by r me l v o) full
+    go (Some how) e = refused_told r me l (Message.Prepare v) how full rules are heard
+    go None e =
+        prepare_told_keeps r me l v full is rules are heard (for_view me l v.signer.cluster v.view v.slot are.wants e)
+        (prepare_answer l.slots v.signer.index v.slot v.digest)
+
+-- ---- a Commit
+
+commit_told_keeps : (r : Roster) (me : ReplicaId) (l : Local) (v : Vote) (full : List Entry) → IsMember r me → KeepsRules r me full
+    → AreLocal r me l full → In (Heard (Message.Commit v)) full → IsForView me l v.signer.cluster v.view v.slot → (how : Take)
+    → IsToldOf r me l (commit_told r me l v how) full
+commit_told_keeps r me l v full is rules are heard for Take.Taken =
+    let w = l.slots in
+    let c : Counted Vote = record { digest = v.digest; kept = v } in
+    let now = after_commit w v.signer.index v.slot c in
+    let later = later_by_commit w v.signer.index v.slot c are.opened.window in
+    let held : AreHeld r me l.view now full = record {
+      proposals = λ s p h. are.held.proposals s p (proposal_after_commit w v.signer.index v.slot s c p h);
+      prepares = λ s i d h. are.held.prepares s i d (prepare_after_commit w v.signer.index v.slot s i c d h);
+      commits = λ s i d h. (elim (commit_heard w v.signer.index v.slot s i c d h) [
+        | inl old ↦ are.held.commits s i d old
+        | inr it ↦ this_vote Message.Commit me l full v s i d heard for it
+      ]);
+    } in
+    record {
+      told = told_counted r me l now v.slot full is for.calm (commit_slot r (Message.Commit v) v (are.shaped (Message.Commit v) heard) (inl refl)) refl
+          (commits_before r me l full are) rules (local_later r me l now full later held are);
+      still = counted_still l now v.slot;
+    }
+commit_told_keeps r me l v full is rules are heard for how = unmoved_told r me l (Answer.Heard how) full rules are
+
+hear_commit_keeps : (r : Roster) (me : ReplicaId) (l : Local) (v : Vote) (full : List Entry) → IsMember r me → KeepsRules r me full
+    → AreLocal r me l full → In (Heard (Message.Commit v)) full → IsToldOf r me l (hear_commit r me l v) full
+hear_commit_keeps r me l v full is rules are heard = go (vote_refusal me l v.signer.cluster v.view v.slot) refl
+  where
+    go : (o : Option Take) → vote_refusal me l v.signer.cluster v.view v.slot ≡ o → IsToldOf r me l (commit_by r me l v o) full
+    go (Some how) e = refused_told r me l (Message.Commit v) how full rules are heard
+    go None e =
+        commit_told_keeps r me l v full is rules are heard (for_view me l v.signer.cluster v.view v.slot are.wants e)
+        (commit_answer l.slots v.signer.index v.slot v.digest)
+
+-- ---- a proposal
+
+-- it is taken where the slot is open and holds none
+record IsFree (w : Window Vote) (slot : ℕ) : Type 0 where
+  at : Slot Vote
+  at_is : slot_at w slot ≡ Some at
+  none : proposal_at w slot ≡ None
+
+is_free : (w : Window Vote) (slot : ℕ) (d : Hash32) → w.low < slot → pre_prepare_answer w slot d ≡ Take.Taken → IsFree w slot
+is_free w slot d above h =
+    elim (cases_lt (high w) slot) [
+      | inl far ↦ (let no = ap (λ place. answer_by place (proposal_answer (proposal_at w slot) d)) (place_far w.low (length w.slots) slot far) in
+          absurd (let clash : Take.Far (high w) ≡ Take.Taken = sym no ∙ h in cc))
+      | inr within ↦ (let yes = ap (λ place. answer_by place (proposal_answer (proposal_at w slot) d)) (place_open w.low (length w.slots) slot above within) in
+          go (slot_at w slot) refl ((slot_is_open w slot).1 (above, within)) (sym yes ∙ h))
+    ]
+  where
+    never : (first : Proposal) (b : Bool) → cond b Take.Twice (Take.Conflict first.digest) ≡ Take.Taken → ⊥
+    never first true k = cc
+    never first false k = cc
+
+    given : (t : Slot Vote) → slot_at w slot ≡ Some t → (o : Option Proposal) → t.proposal ≡ o → proposal_answer o d ≡ Take.Taken → IsFree w slot
+    given t e None q k = record { at = t; at_is = e; none = ap (option_and_then (λ s. s.proposal)) e ∙ q }
+    given t e (Some first) q k = absurd (never first (same_digest first.digest d) k)
+
+    go : (t : Option (Slot Vote)) → slot_at w slot ≡ t → IsSome t → proposal_answer (proposal_at w slot) d ≡ Take.Taken → IsFree w slot
+    go None e some k = cc
+    go (Some t) e some k = given t e t.proposal refl (ap (λ o. proposal_answer (option_and_then (λ s. s.proposal) o) d) (sym e) ∙ k)
+
+prepare_is_no_commit : (x y : Vote) → Said (Message.Prepare x) ≡ Said (Message.Commit y) → ⊥
+prepare_is_no_commit x y e = cc
+
+-- the slot holds the batch from now on
+proposal_held : (w : Window Vote) (slot : ℕ) (p : Proposal) (t : Slot Vote) → slot_at w slot ≡ Some t → proposal_at w slot ≡ None
+    → IsSome (proposal_at (after_pre_prepare w slot p) slot)
+proposal_held w slot p t e none =
+    let free : t.proposal ≡ None = sym (ap (option_and_then (λ s. s.proposal)) e) ∙ none in
+    let now = slot_here w slot (λ s. with_proposal s p) ∙ ap (option_map (λ s. with_proposal s p)) e in
+    ap (λ o. is_some (option_and_then (λ s. s.proposal) o)) now ∙ ap (λ o. is_some (first_proposal o p)) free
+
+proposal_told_keeps : (r : Roster) (me : ReplicaId) (l : Local) (p : PrePrepare) (full : List Entry) → IsMember r me → KeepsRules r me full
+    → AreLocal r me l full → In (Heard (Message.PrePrepare p)) full → IsForView me l p.signer.cluster p.view p.slot → (how : Take)
+    → pre_prepare_answer l.slots p.slot (batch_digest p.batch) ≡ how → IsToldOf r me l (proposal_told r me l p how) full
+proposal_told_keeps r me l p full is rules are heard for Take.Taken answer =
+    let w = l.slots in
+    let d = batch_digest p.batch in
+    let g : Proposal = record { digest = d; batch = p.batch } in
+    let now = after_pre_prepare w p.slot g in
+    let later = later_by_proposal w p.slot g are.opened.window in
+    let free = is_free w p.slot d for.above answer in
+    let fine = are.shaped (Message.PrePrepare p) heard in
+    let low_enough = proposal_slot r p fine in
+    let x = Message.Prepare (vote_of me l.view p.slot d) in
+    let homes : is_batch_of r me.cluster p.batch ≡ true = subst (λ k. is_batch_of r k p.batch ≡ true) for.cluster_is (proposal_homes r p fine) in
+    let it_is : IsHeldBatch r me full g =
+    record { digest_is = refl; known = inr (record { message = Message.PrePrepare p; heard = heard; inside = inl refl }); homes = homes } in
+    let held : AreHeld r me l.view now full = record {
+      proposals = λ s q h. (elim (proposal_heard w p.slot s g q h) [
+        | inl old ↦ are.held.proposals s q old
+        | inr it ↦ subst (λ y. IsHeldBatch r me full y) (sym it.1) it_is
+      ]);
+      prepares = λ s i c h. are.held.prepares s i c (prepare_after_proposal w p.slot s i g c h);
+      commits = λ s i c h. are.held.commits s i c (commit_after_proposal w p.slot s i g c h);
+    } in
+    let at = local_later r me l now full later held are in
+    let holds : IsSome (proposal_at now p.slot) = proposal_held w p.slot g free.at free.at_is free.none in
+    let may = prepare_may r me l full p is are for.calm heard for.cluster_is for.view_is for.above low_enough free.none in
+    let noted = prepare_noted r me (record l { slots = now }) full p.slot d at holds in
+    let still = counted_still l now p.slot in
+    let here : wanted (after_count l now p.slot) ≤ l.view = omega (arith, still.wanted_is, calm_view l for.calm) in
+    let told = told_counted r me l now p.slot (Said x ∷ full) is for.calm low_enough refl
+    (λ v h. (elim h [ inl e ↦ absurd (prepare_is_no_commit (vote_of me l.view p.slot d) v e) | inr k ↦ commits_before r me l full are v k ])) (may, rules) noted in
+    record { told = told_put r me (after_count l now p.slot) x (outs_after r me l now p.slot) full (own me) here told; still = still }
+proposal_told_keeps r me l p full is rules are heard for how answer = unmoved_told r me l (Answer.Heard how) full rules are
+
+hear_proposal_keeps : (r : Roster) (me : ReplicaId) (l : Local) (p : PrePrepare) (full : List Entry) → IsMember r me → KeepsRules r me full
+    → AreLocal r me l full → In (Heard (Message.PrePrepare p)) full → IsToldOf r me l (hear_proposal r me l p) full
+hear_proposal_keeps r me l p full is rules are heard = go (vote_refusal me l p.signer.cluster p.view p.slot) refl
+  where
+    go : (o : Option Take) → vote_refusal me l p.signer.cluster p.view p.slot ≡ o → IsToldOf r me l (proposal_by r me l p o) full
+    go (Some how) e = refused_told r me l (Message.PrePrepare p) how full rules are heard
+    go None e =
+        proposal_told_keeps r me l p full is rules are heard (for_view me l p.signer.cluster p.view p.slot are.wants e)
+        (pre_prepare_answer l.slots p.slot (batch_digest p.batch)) refl
+
+-- ---- a request
+
+hear_request_keeps : (r : Roster) (me : ReplicaId) (l : Local) (x : Request) (full : List Entry) → KeepsRules r me full → AreLocal r me l full
+    → In (Heard (Message.Request x)) full → IsToldOf r me l (hear_request r me l x) full
+hear_request_keeps r me l x full rules are heard =
+    let now = waiting_by (request_answer r me l x) l.waiting x in
+    let local = local_beside r me l l.next l.proposed now l.last l.executed l.kept full (omega arith) (omega arith)
+    (answered r me l full x heard are.waiting) are.kept are in
+    record {
+      told = told_nothing r me (record l { waiting = now }) full rules local;
+      still = record { wanted_is = refl; executed_is = refl; last_is = refl };
+    }
+
+-- ---- any message
+
+pub hear_keeps : (r : Roster) (me : ReplicaId) (l : Local) (m : Message) (full : List Entry) → IsMember r me → KeepsRules r me full
+    → AreLocal r me l full → In (Heard m) full → IsToldOf r me l (hear r me l m) full
+hear_keeps r me l (Message.Request x) full is rules are heard = hear_request_keeps r me l x full rules are heard
+hear_keeps r me l (Message.PrePrepare p) full is rules are heard = hear_proposal_keeps r me l p full is rules are heard
+hear_keeps r me l (Message.Prepare v) full is rules are heard = hear_prepare_keeps r me l v full is rules are heard
+hear_keeps r me l (Message.Commit v) full is rules are heard = hear_commit_keeps r me l v full is rules are heard
+hear_keeps r me l m full is rules are heard = unmoved_told r me l (Answer.Heard Take.Stray) full rules are

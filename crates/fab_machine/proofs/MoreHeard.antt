@@ -1,0 +1,70 @@
+-- What was heard before is heard after: so what rests on it alone stays.
+use Rattle.std.proofs.Common.{ℕ, List, ◌∷◌, Option, inl, inr}
+use Rattle.fab_base.specs.Limits.{Roster}
+use Rattle.fab_base.specs.declared.ids.ReplicaId.{ReplicaId}
+use Rattle.fab_base.specs.declared.requests.Request.{Request}
+use Rattle.fab_base.specs.declared.messages.Vote.{Vote}
+use Rattle.fab_base.specs.declared.messages.PreparedCert.{PreparedCert}
+use Rattle.fab_base.specs.declared.messages.CommitCert.{CommitCert}
+use Rattle.fab_base.specs.declared.messages.Message.{Message}
+use Rattle.fab_rules.specs.Lists.{In}
+use Rattle.fab_rules.specs.Diary.{Entry, Heard}
+use Rattle.pbft_slots.specs.Window.{Window}
+use Rattle.fab_machine.specs.Relation.{IsBatchKnown, AreHeld, AreReported, IsQuoting, IsBacked}
+
+abbrev pub HearsAll : List Entry → List Entry → Type 0
+HearsAll a b = (m : Message) → In (Heard m) a → In (Heard m) b
+
+pub hears_later : (e : Entry) (full : List Entry) → HearsAll full (e ∷ full)
+hears_later e full = λ m h. inr h
+
+pub known_more : (a b : List Entry) (batch : List Request) → HearsAll a b → IsBatchKnown a batch → IsBatchKnown b batch
+known_more a b batch more (inl e) = inl e
+known_more a b batch more (inr h) = inr (record { message = h.message; heard = more h.message h.heard; inside = h.inside })
+
+pub held_more : (r : Roster) (me : ReplicaId) (view : ℕ) (slots : Window Vote) (a b : List Entry) → HearsAll a b → AreHeld r me view slots a
+    → AreHeld r me view slots b
+held_more r me view slots a b more h = record {
+  proposals = λ slot p e. (let x = h.proposals slot p e in record { digest_is = x.digest_is; known = known_more a b p.batch more x.known; homes = x.homes });
+  prepares = λ slot sender c e. (let x = h.prepares slot sender c e in record { heard = more _ x.heard; signer = x.signer; votes_for = x.votes_for });
+  commits = λ slot sender c e. (let x = h.commits slot sender c e in record { heard = more _ x.heard; signer = x.signer; votes_for = x.votes_for });
+}
+
+pub reported_more : (r : Roster) (me : ReplicaId) (view : ℕ) (slots : Window Vote) (prepared : List (Option PreparedCert)) (a b : List Entry) → HearsAll a b
+    → AreReported r me view slots prepared a → AreReported r me view slots prepared b
+reported_more r me view slots prepared a b more old slot k e =
+    let x = old slot k e in
+    record {
+      slot_is = x.slot_is;
+      view_is = x.view_is;
+      known = known_more a b k.batch more x.known;
+      count = x.count;
+      rises = x.rises;
+      heard = λ v h. more (Message.Prepare v) (x.heard v h);
+      own = x.own;
+      agree = x.agree;
+    }
+
+pub quoting_more : (a b : List Entry) (m : Message) → HearsAll a b → IsQuoting a m → IsQuoting b m
+quoting_more a b m more old x h =
+    elim (old x h) [
+      | inl e ↦ inl e
+      | inr s ↦ inr (record { message = s.message; heard = more s.message s.heard; inside = s.inside })
+    ]
+
+pub backed_more : (r : Roster) (a b : List Entry) (k : CommitCert) → HearsAll a b → IsBacked r a k → IsBacked r b k
+backed_more r a b k more h = record {
+  view = h.view;
+  committed = (let q = h.committed in record {
+    members = q.members;
+    quorum = q.quorum;
+    each = λ j l. (let x = q.each j l in record {
+      vote = x.vote;
+      heard = record { message = x.heard.message; heard = more x.heard.message x.heard.heard; inside = x.heard.inside };
+      signer = x.signer;
+      votes_for = x.votes_for;
+    });
+  });
+  known = known_more a b k.batch more h.known;
+  homes = h.homes;
+}

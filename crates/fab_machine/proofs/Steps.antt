@@ -1,0 +1,169 @@
+-- Each event keeps the relation, so a list of events has an honest diary; and an event that makes no entry changes nothing.
+use Rattle.std.proofs.Common.{◌≡◌, ℕ, ◌%◌, Bool, true, false, not, cond, nat_lt, ◌||◌, List, [], ◌∷◌, length, take, Option, Some, None, Result, Ok, Err, inl, inr, refl, ap, ◌∙◌}
+use Rattle.std.specs.Prelude.{drop}
+use Rattle.std.specs.Bool.{IsTrue}
+use Rattle.std.proofs.Math.Seq.{drop-length}
+use Rattle.fab_base.specs.declared.limits.TheConstants.{GREATEST_NUMBER}
+use Rattle.fab_base.specs.Limits.{Roster, IsWithinLimits}
+use Rattle.fab_base.specs.Roster.{is_replica, size_of}
+use Rattle.fab_base.specs.declared.ids.ReplicaId.{ReplicaId}
+use Rattle.fab_base.specs.declared.messages.Vote.{Vote}
+use Rattle.fab_base.specs.declared.messages.PrePrepare.{PrePrepare}
+use Rattle.fab_base.specs.declared.messages.Message.{Message}
+use Rattle.fab_base.specs.declared.answers.Answer.{Answer}
+use Rattle.fab_base.specs.declared.answers.Item.{Item}
+use Rattle.fab_base.specs.declared.answers.Take.{Take}
+use Rattle.fab_rules.specs.declared.blocks.Block.{Block}
+use Rattle.fab_rules.specs.Lists.{In}
+use Rattle.fab_rules.specs.Digests.{batch_digest}
+use Rattle.fab_rules.specs.Shape.{is_primary}
+use Rattle.fab_rules.specs.Diary.{Entry, Heard}
+use Rattle.fab_rules.specs.Rules.{KeepsRules, IsHonest}
+use Rattle.pbft_slots.specs.Window.{high, pre_prepare_answer, prepare_answer, commit_answer}
+use Rattle.fab_machine.specs.State.{Local, Replica, fresh}
+use Rattle.fab_machine.specs.Voting.{unmoved, vote_refusal, proposal_told, prepare_told, commit_told, proposal_by, prepare_by, commit_by}
+use Rattle.fab_machine.specs.Proposing.{eligible, proposed, is_due, propose_in, propose}
+use Rattle.fab_machine.specs.Rounds.{knows_others, next_round}
+use Rattle.fab_machine.specs.Step.{Event, after_told, hear, propose_step, emit_step, execute_step, step, makes_entry, moves}
+use Rattle.fab_machine.specs.Diaries.{MayCome, diary_sent, diary_did, diary_after, state_from, diary_from, diary_of}
+use Rattle.fab_machine.specs.Relation.{AreLocal, full_of, AreRelated, IsTold}
+use Rattle.fab_machine.proofs.Members.{is_member}
+use Rattle.fab_machine.proofs.Hearing.{hear_keeps}
+use Rattle.fab_machine.proofs.Proposing.{propose_keeps}
+use Rattle.fab_machine.proofs.Stepping.{told_keeps, hear_step, emit_keeps, honest}
+use Rattle.fab_machine.proofs.Executing.{execute_keeps}
+use Rattle.fab_machine.proofs.Starting.{starts}
+
+-- ---- one event
+
+proposing_keeps : (r : Roster) (me : ReplicaId) (s : Replica) (diary : List Entry) (nudged : Bool) → IsWithinLimits r → IsTrue (is_replica r me)
+    → AreRelated r me s diary → AreRelated r me (propose_step r me s nudged).state diary
+proposing_keeps r me s diary nudged limits known rel =
+    let others = knows_others me.cluster s.rounds.certificates s.local.next in
+    told_keeps r me s diary (propose r me s.local nudged others) rel
+    (propose_keeps r me s.local nudged others (full_of me s diary) (is_member r me limits known) rel.rules rel.local)
+
+pub step_keeps : (r : Roster) (me : ReplicaId) (s : Replica) (diary : List Entry) (e : Event) → IsWithinLimits r → IsTrue (is_replica r me) → MayCome r e
+    → AreRelated r me s diary → AreRelated r me (step r me s e).state (diary_after me s e (step r me s e).state diary)
+step_keeps r me s diary (Event.Hear m) limits known may rel = hear_step r me s diary m (is_member r me limits known) may rel
+step_keeps r me s diary Event.Batch limits known may rel = proposing_keeps r me s diary false limits known rel
+step_keeps r me s diary Event.Nudge limits known may rel = proposing_keeps r me s diary true limits known rel
+step_keeps r me s diary (Event.Emit sig) limits known may rel = emit_keeps r me s diary sig rel
+step_keeps r me s diary Event.Execute limits known may rel = execute_keeps r me s diary (is_member r me limits known) rel
+
+pub starts_related : (r : Roster) (me : ReplicaId) → IsWithinLimits r → IsTrue (is_replica r me) → AreRelated r me (fresh r me) []
+starts_related r me limits known = starts r me (is_member r me limits known)
+
+-- ---- many events
+
+events_keep : (r : Roster) (me : ReplicaId) (s : Replica) (diary : List Entry) (events : List Event) → IsWithinLimits r → IsTrue (is_replica r me)
+    → ((e : Event) → In e events → MayCome r e) → AreRelated r me s diary → AreRelated r me (state_from r me s events) (diary_from r me s diary events)
+events_keep r me s diary [] limits known may rel = rel
+events_keep r me s diary (e ∷ rest) limits known may rel =
+    events_keep r me (step r me s e).state (diary_after me s e (step r me s e).state diary) rest limits known (λ x h. may x (inr h))
+    (step_keeps r me s diary e limits known (may e (inl refl)) rel)
+
+pub events_honest : (r : Roster) (me : ReplicaId) (events : List Event) → IsWithinLimits r → IsTrue (is_replica r me)
+    → ((e : Event) → In e events → MayCome r e) → IsHonest r me (diary_of r me events)
+events_honest r me events limits known may =
+    honest r me (state_from r me (fresh r me) events) (diary_of r me events)
+    (events_keep r me (fresh r me) [] events limits known may (starts_related r me limits known))
+
+-- ---- what is heard makes an entry
+
+proposal_entry : (r : Roster) (me : ReplicaId) (l : Local) (p : PrePrepare) (o : Option Take) → makes_entry (proposal_by r me l p o).answer ≡ true
+proposal_entry r me l p (Some how) = refl
+proposal_entry r me l p None = go (pre_prepare_answer l.slots p.slot (batch_digest p.batch))
+  where
+    go : (how : Take) → makes_entry (proposal_told r me l p how).answer ≡ true
+    go Take.Taken = refl
+    go how = refl
+
+prepare_entry : (r : Roster) (me : ReplicaId) (l : Local) (v : Vote) (o : Option Take) → makes_entry (prepare_by r me l v o).answer ≡ true
+prepare_entry r me l v (Some how) = refl
+prepare_entry r me l v None = go (prepare_answer l.slots v.signer.index v.slot v.digest)
+  where
+    go : (how : Take) → makes_entry (prepare_told r me l v how).answer ≡ true
+    go Take.Taken = refl
+    go how = refl
+
+commit_entry : (r : Roster) (me : ReplicaId) (l : Local) (v : Vote) (o : Option Take) → makes_entry (commit_by r me l v o).answer ≡ true
+commit_entry r me l v (Some how) = refl
+commit_entry r me l v None = go (commit_answer l.slots v.signer.index v.slot v.digest)
+  where
+    go : (how : Take) → makes_entry (commit_told r me l v how).answer ≡ true
+    go Take.Taken = refl
+    go how = refl
+
+pub hearing_moves : (r : Roster) (me : ReplicaId) (s : Replica) (m : Message) → moves r me s (Event.Hear m) ≡ true
+hearing_moves r me s (Message.PrePrepare p) = proposal_entry r me s.local p (vote_refusal me s.local p.signer.cluster p.view p.slot)
+hearing_moves r me s (Message.Prepare v) = prepare_entry r me s.local v (vote_refusal me s.local v.signer.cluster v.view v.slot)
+hearing_moves r me s (Message.Commit v) = commit_entry r me s.local v (vote_refusal me s.local v.signer.cluster v.view v.slot)
+hearing_moves r me s m = refl
+
+apart : (b : Bool) → b ≡ true → b ≡ false → ⊥
+apart true p q = cc
+apart false p q = cc
+
+-- ---- an event that makes no entry
+
+idle_propose : (r : Roster) (me : ReplicaId) (s : Replica) (nudged : Bool) → makes_entry (propose_step r me s nudged).answer ≡ false
+    → (propose_step r me s nudged).state ≡ s
+idle_propose r me s nudged h = by s.local.changing h
+  where
+    open_for : (a b c : Bool) (p : ℕ) → (let t = cond (not a) (unmoved s.local (Answer.NotPrimary p)) (cond b (unmoved s.local (Answer.WindowFull s.local.slots.low))
+        (cond c (proposed r me s.local (take r.batch (eligible s.local))) (unmoved s.local (Answer.Waiting (length (eligible s.local)))))) in
+        makes_entry (after_told s t).answer ≡ false → (after_told s t).state ≡ s)
+    open_for false b c p q = refl
+    open_for true true c p q = refl
+    open_for true false true p q = cc
+    open_for true false false p q = refl
+
+    others : Bool
+    others = knows_others me.cluster s.rounds.certificates s.local.next
+
+    by : (o : Option ℕ) → makes_entry (after_told s (propose_in r me s.local nudged others o)).answer ≡ false
+        → (after_told s (propose_in r me s.local nudged others o)).state ≡ s
+    by (Some asked) q = refl
+    by None q = open_for (is_primary r me.cluster s.local.view me.index) (nat_lt (high s.local.slots) s.local.next || nat_lt GREATEST_NUMBER s.local.next)
+        (is_due r s.local nudged others) (s.local.view % size_of r me.cluster) q
+
+idle_emit : (me : ReplicaId) (s : Replica) (sig : List ℕ) (o : List Item) → makes_entry (emit_step me s sig o).answer ≡ false → (emit_step me s sig o).state ≡ s
+idle_emit me s sig [] h = refl
+idle_emit me s sig (item ∷ rest) h = cc
+
+idle_execute : (r : Roster) (me : ReplicaId) (s : Replica) (o : Result (List Block) ℕ) → makes_entry (execute_step r me s o).answer ≡ false
+    → (execute_step r me s o).state ≡ s
+idle_execute r me s (Err missing) h = refl
+idle_execute r me s (Ok blocks) h = cc
+
+pub idle : (r : Roster) (me : ReplicaId) (s : Replica) (e : Event) → moves r me s e ≡ false → (step r me s e).state ≡ s
+idle r me s (Event.Hear m) h = absurd (apart (moves r me s (Event.Hear m)) (hearing_moves r me s m) h)
+idle r me s Event.Batch h = idle_propose r me s false h
+idle r me s Event.Nudge h = idle_propose r me s true h
+idle r me s (Event.Emit sig) h = idle_emit me s sig s.outbox h
+idle r me s Event.Execute h = idle_execute r me s (next_round (length r.sizes) s.rounds) h
+
+pub idle_diary : (r : Roster) (me : ReplicaId) (s : Replica) (diary : List Entry) (e : Event) → moves r me s e ≡ false
+    → diary_after me s e (step r me s e).state diary ≡ diary
+idle_diary r me s diary (Event.Hear m) h = absurd (apart (moves r me s (Event.Hear m)) (hearing_moves r me s m) h)
+idle_diary r me s diary Event.Batch h = refl
+idle_diary r me s diary Event.Nudge h = refl
+idle_diary r me s diary (Event.Emit sig) h = go s.outbox h
+  where
+    go : (o : List Item) → makes_entry (emit_step me s sig o).answer ≡ false → diary_sent me o diary ≡ diary
+    go [] q = refl
+    go (item ∷ rest) q = cc
+idle_diary r me s diary Event.Execute h =
+    ap (λ now. diary_did diary (drop (length s.rounds.blocks) now.rounds.blocks)) (idle r me s Event.Execute h)
+    ∙ ap (diary_did diary) (drop-length s.rounds.blocks)
+
+-- ---- local ordering alone
+
+pub hear_told : (r : Roster) (me : ReplicaId) (l : Local) (m : Message) (full : List Entry) → IsWithinLimits r → IsTrue (is_replica r me)
+    → KeepsRules r me full → AreLocal r me l full → In (Heard m) full → IsTold r me (hear r me l m).local (hear r me l m).outs full
+hear_told r me l m full limits known rules are heard = (hear_keeps r me l m full (is_member r me limits known) rules are heard).told
+
+pub propose_told : (r : Roster) (me : ReplicaId) (l : Local) (nudged known : Bool) (full : List Entry) → IsWithinLimits r → IsTrue (is_replica r me)
+    → KeepsRules r me full → AreLocal r me l full → IsTold r me (propose r me l nudged known).local (propose r me l nudged known).outs full
+propose_told r me l nudged known full limits member rules are = (propose_keeps r me l nudged known full (is_member r me limits member) rules are).told

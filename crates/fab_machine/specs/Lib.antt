@@ -1,0 +1,10 @@
+pub mod State
+pub mod Items
+pub mod Voting
+pub mod Requests
+pub mod Proposing
+pub mod Serving
+pub mod Rounds
+pub mod Step
+pub mod Diaries
+pub mod Relation

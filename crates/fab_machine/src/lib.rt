@@ -1,0 +1,30 @@
+//! The machine of a replica: what each event is answered and what it changes, as pure functions of a state.
+//!
+//! A replica is a value. An event goes in (a message is heard, a batch may be proposed, an item is sent, a round is executed), one
+//! answer comes out, and items wait in its outbox. There is no clock in it, no socket and no thread. The crates of code answer what
+//! these definitions say, word for word; they define nothing of their own.
+//!
+//! The definitions stand in `specs/`, one idea a file, and read from the bottom up:
+//!
+//! - `State`: a replica's state. `Local` is ordering in the own cluster (PBFT), `Rounds` what is kept and executed of all clusters
+//!   (GeoBFT), `Replica` both with the outbox.
+//! - `Items`: the messages that a replica puts, to whom, and what it says when it sends one.
+//! - `Voting`, `Requests`, `Proposing`, `Serving`: local ordering. Each of its functions gives a `Told`: the answer, the state, and
+//!   what it brings about, which is a list of `Out`.
+//! - `Rounds`: the first certificate of a round and cluster is kept; a round with all of them is executed; what the ledger comes to.
+//! - `Step`: the five events, and the questions that ask beforehand whether one would do anything.
+//! - `Diaries`: what an event adds to the diary of what was heard, said and done, of which `fab_rules` has the rules.
+//! - `Relation`: what the state remembers of the diary.
+//!
+//! `step_law` is the promise: after every list of events, in whatever order they come and whatever is heard, the diary is that of an
+//! honest replica. `local_law` is the part of it that local ordering keeps by itself.
+//!
+//! View changes, checkpoints and what clusters tell each other aren't here yet: a message of theirs is heard and answered `Stray`. The
+//! state has what they will need of the view and of the low mark.
+#![tactic(auto)]
+
+mod laws;
+mod outs;
+
+pub use laws::{local_law, step_law};
+pub use outs::{Out, Outs};

@@ -1,0 +1,2 @@
+mod Correct
+mod Listed

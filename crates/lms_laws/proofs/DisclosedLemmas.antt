@@ -1,0 +1,24 @@
+-- What a signer gives away, chain by chain.
+use Rattle.std.proofs.Common.{◌≡◌, ℕ, ◌-◌, ◌<◌, ◌≤◌, Some, length, sym, ap, ◌∙◌, arith}
+use Rattle.lmots_core.specs.Parameters.{chain_count}
+use Rattle.lmots_core.specs.Chains.{chain, chain_start}
+use Rattle.lmots_core.specs.OneTime.{value_of}
+use Rattle.lmots_core.proofs.ChainLemmas.{chain_from_first}
+use Rattle.lms_tree.specs.Keys.{TreeKey}
+use Rattle.lms_tree.specs.Signatures.{tree_signature}
+use Rattle.lms_tree.specs.Verdict.{ots_part}
+use Rattle.lms_laws.specs.Signed.{Signing, lowest_shown}
+use Rattle.lms_laws.specs.Forgery.{own_value}
+use Rattle.lms_laws.proofs.ChainLemmas.{chain_link}
+use Rattle.lms_laws.proofs.ReadLemmas.{value_read}
+
+pub signed_shows : (key : TreeKey) (q i : ℕ) (signing : Signing) → length signing.randomizer ≡ 32 → i < chain_count key.ots
+    → value_of (ots_part key.ots (tree_signature key q signing.randomizer signing.content)) i ≡ own_value key q i (lowest_shown key q i (Some signing))
+signed_shows key q i signing size lt = value_read key q signing.randomizer signing.content size i lt
+
+pub goes_on : (key : TreeKey) (q i from to : ℕ) → from ≤ to
+    → own_value key q i to ≡ chain key.seed.id q i from (to - from) (own_value key q i from)
+goes_on key q i from to le =
+    let start = chain_start key.seed q i in
+    sym (ap (chain key.seed.id q i from (to - from)) (sym (chain_from_first key.seed.id q i from start))
+    ∙ chain_link key.seed.id q i 0 from to start (omega arith) le ∙ chain_from_first key.seed.id q i to start)

@@ -1,0 +1,5 @@
+use Rattle.msg_spell.proofs.Joining.{sealed}
+use Rattle.msg_spell.proofs.changes.ViewChangeSpelled.put.Goals as goal
+
+pub returns : goal.returns
+returns g c = sealed c.args.self.now.sig c.in_ok-put_view_change_body.ensures c.in_ok-put_signature.ensures

@@ -1,0 +1,5 @@
+use Rattle.msg_spell.proofs.Joining.{joined}
+use Rattle.msg_spell.proofs.votes.put_checkpoint_body.Goals as goal
+
+pub returns : goal.returns
+returns g c = joined (joined (joined c.in_ok-put_u8.ensures c.in_ok-put_replica.ensures) c.in_ok-put_u64.ensures) c.in_ok-write.ensures

@@ -1,0 +1,7 @@
+mod Hearing
+mod Holding
+mod Matters
+mod Members
+mod Once
+mod Settling
+mod Worth

@@ -1,0 +1,5 @@
+pub mod Calls
+pub mod Counts
+pub mod Heard
+pub mod Pleading
+pub mod Plights
