@@ -13,8 +13,6 @@
 mod devices;
 mod memory;
 mod std_devices;
-#[cfg(test)]
-mod tests;
 
 pub use devices::{Got, Sink, Source, Sunk};
 pub use memory::{MemSink, MemSource};
