@@ -15,7 +15,8 @@ pub mod Reporting
 pub mod Waiting
 pub mod Locals
 pub mod Quorums
-pub mod Certifying
+pub mod Certificates
+pub mod States
 pub mod Putting
 pub mod Telling
 pub mod Hearing
