@@ -21,7 +21,7 @@ use Rattle.fab_rules.proofs.Lists.{contains_from_in, of_flat_map}
 use Rattle.vote_certs.specs.Counting.{value_of}
 use Rattle.vote_certs.proofs.Meaning.{in_filter}
 use Rattle.pbft_slots.specs.Ballots.{Counted, is_for, senders_for, kept_of, kept_from, first_votes}
-use Rattle.pbft_slots.specs.Window.{votes_in, slot_at, batch_at, prepared_at, committed_at}
+use Rattle.pbft_slots.specs.Window.{votes_in, batch_at, prepared_at, committed_at}
 use Rattle.pbft_slots.proofs.Agreement.{quorum_counted}
 use Rattle.fab_machine.specs.State.{Local}
 use Rattle.fab_machine.specs.Items.{member_of}

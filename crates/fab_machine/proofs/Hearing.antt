@@ -1,8 +1,7 @@
 -- Hearing a proposal, a vote or a request keeps the relation, whatever it is answered.
-use Rattle.std.proofs.Common.{◌≡◌, ℕ, ◌<◌, ◌≤◌, Bool, true, false, not, cond, nat_le, nat_lt, nat_eq, List, [], ◌∷◌, ◌++◌, length, Option, Some, None, is_some, inl, inr, refl, sym, ap, subst, ◌∙◌, arith}
+use Rattle.std.proofs.Common.{◌≡◌, ℕ, ◌<◌, ◌≤◌, Bool, true, false, cond, List, [], ◌∷◌, ◌++◌, length, Option, Some, None, is_some, inl, inr, refl, sym, ap, subst, ◌∙◌, arith}
 use Rattle.std.specs.Option.{IsSome, option_map, option_and_then}
 use Rattle.std.proofs.lemmas.Bool.{cases_lt}
-use Rattle.std.proofs.lemmas.Bool.Decides.{nat_tests}
 use Rattle.fab_base.specs.Limits.{Roster}
 use Rattle.fab_base.specs.Digests.{same_digest}
 use Rattle.fab_base.specs.declared.ids.ReplicaId.{ReplicaId}
@@ -13,10 +12,8 @@ use Rattle.fab_base.specs.declared.messages.PrePrepare.{PrePrepare}
 use Rattle.fab_base.specs.declared.messages.Message.{Message}
 use Rattle.fab_base.specs.declared.answers.Answer.{Answer}
 use Rattle.fab_base.specs.declared.answers.Take.{Take}
-use Rattle.fab_base.proofs.Tests.{same}
 use Rattle.fab_rules.specs.Lists.{In}
 use Rattle.fab_rules.specs.Digests.{batch_digest}
-use Rattle.fab_rules.specs.Shape.{is_batch_of}
 use Rattle.fab_rules.specs.Diary.{Entry, Heard, Said}
 use Rattle.fab_rules.specs.Rules.{KeepsRules}
 use Rattle.fab_rules.proofs.Lists.{in_append_cases}
@@ -24,17 +21,17 @@ use Rattle.pbft_slots.specs.declared.slot.Proposal.{Proposal}
 use Rattle.pbft_slots.specs.declared.slot.Slot.{Slot}
 use Rattle.pbft_slots.specs.Ballots.{Counted}
 use Rattle.pbft_slots.specs.Slots.{proposal_answer, first_proposal, with_proposal}
-use Rattle.pbft_slots.specs.Window.{Window, high, refusal_by, place_in, slot_at, proposal_at, prepared_at, pre_prepare_answer, prepare_answer, commit_answer, answer_by, after_pre_prepare, after_prepare, after_commit}
+use Rattle.pbft_slots.specs.Window.{Window, high, slot_at, proposal_at, prepared_at, pre_prepare_answer, prepare_answer, commit_answer, answer_by, after_pre_prepare}
 use Rattle.pbft_slots.proofs.Places.{slot_here, slot_is_open, place_far, place_open}
-use Rattle.fab_machine.specs.State.{Local, wanted, wanted_by}
+use Rattle.fab_machine.specs.State.{Local, wanted}
 use Rattle.fab_machine.specs.Items.{vote_of}
 use Rattle.fab_machine.specs.Voting.{vote_refusal, kept_by, refused, after_count, outs_after, prepare_told, commit_told, proposal_told, prepare_by, commit_by, proposal_by, hear_prepare, hear_commit, hear_proposal}
 use Rattle.fab_machine.specs.Requests.{request_answer, waiting_by, hear_request}
 use Rattle.fab_machine.specs.Step.{hear}
 use Rattle.fab_machine.specs.Relation.{IsBatchKnown, AreHeard, IsPast, AreLocal}
 use Rattle.fab_machine.proofs.Members.{IsMember}
-use Rattle.fab_machine.proofs.Shaped.{prepare_slot, commit_slot, proposal_slot, proposal_homes}
-use Rattle.fab_machine.proofs.Windows.{later_by_proposal, later_by_prepare, later_by_commit, IsThisVote, prepare_heard, commit_heard, proposal_heard, proposal_after_prepare, proposal_after_commit, commit_after_prepare, prepare_after_commit, prepare_after_proposal, commit_after_proposal}
+use Rattle.fab_machine.proofs.Shaped.{prepare_slot, commit_slot, proposal_slot}
+use Rattle.fab_machine.proofs.Windows.{later_by_proposal, later_by_prepare, later_by_commit, prepare_heard, commit_heard, proposal_heard, proposal_after_prepare, proposal_after_commit, commit_after_prepare, prepare_after_commit, prepare_after_proposal, commit_after_proposal}
 use Rattle.fab_machine.proofs.Waiting.{in_answered}
 use Rattle.fab_machine.proofs.States.{IsForView, for_view, prepare_counted, commit_counted, proposal_counted, prepare_state, commit_state, proposal_state, request_state}
 use Rattle.fab_machine.proofs.Locals.{local_beside, local_later}

@@ -1,6 +1,5 @@
 -- The changes of local ordering's state and of the diary of which every step is made: each keeps the relation of the two.
-use Rattle.std.proofs.Common.{◌≡◌, ℕ, ◌≤◌, List, ◌∷◌, length, map, Option, Some, is_some, Result, Ok, Err, inl, inr, refl, sym, subst, ◌∙◌, arith}
-use Rattle.std.proofs.lemmas.List.{length-set}
+use Rattle.std.proofs.Common.{◌≡◌, ℕ, ◌≤◌, List, ◌∷◌, map, is_some, inl, inr, subst, arith}
 use Rattle.fab_base.specs.Limits.{Roster}
 use Rattle.fab_base.specs.declared.ids.ReplicaId.{ReplicaId}
 use Rattle.fab_base.specs.declared.requests.Request.{Request}
@@ -9,7 +8,6 @@ use Rattle.fab_base.specs.declared.messages.PrePrepare.{PrePrepare}
 use Rattle.fab_base.specs.declared.messages.PreparedCert.{PreparedCert}
 use Rattle.fab_base.specs.declared.messages.Note.{Note}
 use Rattle.fab_base.specs.declared.messages.Message.{Message}
-use Rattle.fab_base.specs.declared.answers.Take.{Take}
 use Rattle.fab_rules.specs.Lists.{In}
 use Rattle.fab_rules.specs.Shape.{IsShaped}
 use Rattle.fab_rules.specs.Statements.{signer_of}

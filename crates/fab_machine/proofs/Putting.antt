@@ -15,7 +15,6 @@ use Rattle.fab_rules.specs.Diary.{Entry, Heard, Said}
 use Rattle.fab_rules.specs.Rules.{MaySay}
 use Rattle.fab_rules.proofs.Digests.{batch_digest_fits}
 use Rattle.pbft_slots.specs.Window.{place_in, proposal_at, prepared_at}
-use Rattle.pbft_slots.proofs.Agreement.{quorum_counted}
 use Rattle.fab_machine.specs.State.{Local, wanted, wanted_by}
 use Rattle.fab_machine.specs.Items.{vote_of}
 use Rattle.fab_machine.specs.Voting.{with_certificate, prepared_certificate}

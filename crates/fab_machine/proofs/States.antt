@@ -1,6 +1,5 @@
 -- What a state of local ordering keeps by itself, it keeps through every call; and each certificate that is formed is one.
-use Rattle.std.proofs.Common.{◌≡◌, ℕ, ◌+◌, ◌%◌, ◌<◌, ◌≤◌, Bool, true, false, not, cond, nat_le, nat_lt, nat_eq, ◌||◌, List, [], ◌∷◌, ◌++◌, length, take, Option, Some, None, Result, Ok, Err, ◌⊎◌, inl, inr, refl, sym, ap, subst, ◌∙◌, arith}
-use Rattle.std.specs.Bool.{IsTrue}
+use Rattle.std.proofs.Common.{◌≡◌, ℕ, ◌+◌, ◌%◌, ◌<◌, ◌≤◌, Bool, true, false, not, cond, nat_le, nat_lt, nat_eq, ◌||◌, List, [], ◌∷◌, ◌++◌, length, take, Option, Some, None, Result, Ok, Err, inl, inr, refl, sym, ap, subst, ◌∙◌, arith}
 use Rattle.std.proofs.lemmas.Bool.Decides.{nat_tests}
 use Rattle.std.proofs.lemmas.List.{length-set}
 use Rattle.fab_base.specs.declared.limits.TheConstants.{GREATEST_NUMBER}
@@ -22,18 +21,17 @@ use Rattle.fab_base.proofs.Tests.{same}
 use Rattle.fab_rules.specs.Lists.{In}
 use Rattle.fab_rules.specs.Digests.{batch_digest}
 use Rattle.fab_rules.specs.Shape.{is_batch_of, is_primary, IsShaped}
-use Rattle.fab_rules.proofs.Lists.{in_append_cases}
 use Rattle.pbft_slots.specs.declared.slot.Proposal.{Proposal}
 use Rattle.pbft_slots.specs.Ballots.{Counted}
-use Rattle.pbft_slots.specs.Window.{Window, high, refusal_by, place_in, pre_prepare_answer, prepare_answer, commit_answer, after_pre_prepare, after_prepare, after_commit, prepared_at, committed_at}
+use Rattle.pbft_slots.specs.Window.{Window, high, refusal_by, place_in, pre_prepare_answer, prepare_answer, commit_answer, after_pre_prepare, after_prepare, after_commit, committed_at}
 use Rattle.fab_machine.specs.State.{Proposed, Local, wanted, wanted_by}
-use Rattle.fab_machine.specs.Voting.{Told, unmoved, with_certificate, prepared_certificate, newly, keep_prepared, commit_outs, certified_outs, newly_prepared, newly_committed, after_count, outs_after, vote_refusal, kept_by, refused, prepare_outs, proposal_told, prepare_told, commit_told, proposal_by, prepare_by, commit_by}
+use Rattle.fab_machine.specs.Voting.{Told, unmoved, with_certificate, prepared_certificate, newly, keep_prepared, commit_outs, certified_outs, newly_prepared, newly_committed, after_count, outs_after, vote_refusal, kept_by, refused, proposal_told, prepare_told, commit_told, proposal_by, prepare_by, commit_by}
 use Rattle.fab_machine.specs.Requests.{request_answer, waiting_by}
 use Rattle.fab_machine.specs.Proposing.{eligible, proposed, is_due, propose_in, propose}
 use Rattle.fab_machine.specs.Serving.{stamps_after, still_waiting, still_proposed, served}
 use Rattle.fab_machine.specs.Rounds.{IsCertificate}
 use Rattle.fab_machine.specs.Step.{hear}
-use Rattle.fab_machine.specs.LocalState.{AreOpen, IsHeldBatch, IsKeptVote, AreHeld, AreWaiting, IsLocalState}
+use Rattle.fab_machine.specs.LocalState.{IsHeldBatch, IsKeptVote, AreHeld, AreWaiting, IsLocalState}
 use Rattle.fab_machine.specs.declared.outs.Out.{Out}
 use Rattle.fab_machine.proofs.Members.{IsMember}
 use Rattle.fab_machine.proofs.Shaped.{proposal_homes, shaped_proposal_fits, shaped_request_fits}
@@ -314,25 +312,32 @@ hear_state r me l m member fine is = unmoved_state r me l (Answer.Heard Take.Str
 
 -- ---- Batch and Nudge
 
-proposed_state : (r : Roster) (me : ReplicaId) (l : Local) (batch : List Request) → IsLocalState r me l → IsToldState r me (proposed r me l batch)
-proposed_state r me l batch is = record {
-  is = state_beside r me l (l.next + 1) (l.proposed ++ record { slot = l.next; batch = batch } ∷ []) l.waiting l.last l.executed l.kept (omega arith) is.waiting is;
-  certified = put_certifies_nothing (length r.sizes) _ [] (λ k h. absurd h);
-}
+-- a property of all that a proposal may come to
+module _ (P : Told → Type 0) (r : Roster) (me : ReplicaId) (l : Local) (nudged known : Bool) where
+  pub propose_cases : ((a : Answer) → P (unmoved l a)) → P (proposed r me l (take r.batch (eligible l))) → P (propose r me l nudged known)
+  propose_cases still new = by l.changing
+    where
+      open_for : (a b c : Bool) → P (cond (not a) (unmoved l (Answer.NotPrimary (l.view % size_of r me.cluster))) (cond b (unmoved l (Answer.WindowFull l.slots.low))
+          (cond c (proposed r me l (take r.batch (eligible l))) (unmoved l (Answer.Waiting (length (eligible l)))))))
+      open_for false b c = still (Answer.NotPrimary (l.view % size_of r me.cluster))
+      open_for true true c = still (Answer.WindowFull l.slots.low)
+      open_for true false false = still (Answer.Waiting (length (eligible l)))
+      open_for true false true = new
 
-pub propose_state : (r : Roster) (me : ReplicaId) (l : Local) (nudged known : Bool) → IsLocalState r me l → IsToldState r me (propose r me l nudged known)
-propose_state r me l nudged known is = by l.changing
-  where
-    open_for : (a b c : Bool) → IsToldState r me (cond (not a) (unmoved l (Answer.NotPrimary (l.view % size_of r me.cluster))) (cond b (unmoved l (Answer.WindowFull l.slots.low))
-        (cond c (proposed r me l (take r.batch (eligible l))) (unmoved l (Answer.Waiting (length (eligible l)))))))
-    open_for false b c = unmoved_state r me l (Answer.NotPrimary (l.view % size_of r me.cluster)) is
-    open_for true true c = unmoved_state r me l (Answer.WindowFull l.slots.low) is
-    open_for true false false = unmoved_state r me l (Answer.Waiting (length (eligible l))) is
-    open_for true false true = proposed_state r me l (take r.batch (eligible l)) is
+      by : (o : Option ℕ) → P (propose_in r me l nudged known o)
+      by (Some asked) = still (Answer.Changing asked)
+      by None = open_for (is_primary r me.cluster l.view me.index) (nat_lt (high l.slots) l.next || nat_lt GREATEST_NUMBER l.next) (is_due r l nudged known)
 
-    by : (o : Option ℕ) → IsToldState r me (propose_in r me l nudged known o)
-    by (Some asked) = unmoved_state r me l (Answer.Changing asked) is
-    by None = open_for (is_primary r me.cluster l.view me.index) (nat_lt (high l.slots) l.next || nat_lt GREATEST_NUMBER l.next) (is_due r l nudged known)
+pub propose_state : (r : Roster) (me : ReplicaId) (l : Local) (nudged known : Bool) → IsLocalState r me l → IsLocalState r me (propose r me l nudged known).local
+propose_state r me l nudged known is =
+    let ps = l.proposed ++ record { slot = l.next; batch = take r.batch (eligible l) } ∷ [] in
+    propose_cases (λ t. IsLocalState r me t.local) r me l nudged known (λ a. is)
+    (state_beside r me l (l.next + 1) ps l.waiting l.last l.executed l.kept (omega arith) is.waiting is)
+
+pub propose_forms_none : (r : Roster) (me : ReplicaId) (l : Local) (nudged known : Bool) (k : CommitCert) → In (Out.Certified k) (propose r me l nudged known).outs → ⊥
+propose_forms_none r me l nudged known k =
+    propose_cases (λ t. In (Out.Certified k) t.outs → ⊥) r me l nudged known (λ a h. h)
+    (λ h. elim h [ inl e ↦ put_is_not_certified _ k e | inr none ↦ none ])
 
 -- ---- an executed round
 

@@ -4,7 +4,6 @@
 -- The facts speak of the full diary: the one in which all that waits in the outbox is said too. A put adds one statement to it, and
 -- sending leaves it as it is. A record takes the parts of the state that it speaks of, so that a change of other parts leaves it true.
 use Rattle.std.specs.Prelude.{◌≡◌, ℕ, ◌*◌, ◌<◌, ◌≤◌, ◌⊎◌, List, [], ◌∷◌, length, Option, Some, None, Result, Ok, Err, IsSome, IsTrue, map, slice_get, slice_index}
-use Rattle.fab_base.specs.declared.limits.TheConstants.{GREATEST_NUMBER}
 use Rattle.fab_base.specs.Limits.{Roster}
 use Rattle.fab_base.specs.Quorums.{quorum_size}
 use Rattle.fab_base.specs.Roster.{size_of, home_of}
@@ -31,10 +30,10 @@ use Rattle.fab_rules.specs.Diary.{Entry, Heard, Said, ledger, StatementHeard, Co
 use Rattle.fab_rules.specs.Rules.{KeepsRules}
 use Rattle.fab_rules.specs.Growth.{after_saying}
 use Rattle.pbft_slots.specs.Ballots.{Counted}
-use Rattle.pbft_slots.specs.Window.{Window, IsWindow, place_in, proposal_at, prepare_at, commit_at, prepared_at}
+use Rattle.pbft_slots.specs.Window.{Window, place_in, proposal_at, prepare_at, commit_at, prepared_at}
 use Rattle.pbft_slots.specs.declared.slot.Proposal.{Proposal}
 use Rattle.fab_machine.specs.State.{Local, Rounds, Replica, wanted}
-use Rattle.fab_machine.specs.Items.{member_of, statements_by, statements_in}
+use Rattle.fab_machine.specs.Items.{statements_by, statements_in}
 use Rattle.fab_machine.specs.LocalState.{IsLocalState}
 use Rattle.fab_machine.specs.Rounds.{round_of}
 use Rattle.fab_machine.specs.declared.outs.Out.{Out}
