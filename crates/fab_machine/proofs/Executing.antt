@@ -24,6 +24,7 @@ use Rattle.fab_rules.specs.Diary.{Entry, Heard, Said, ledger, CommitHeard, VoteO
 use Rattle.fab_rules.specs.Rules.{KeepsRules, MaySay}
 use Rattle.fab_rules.specs.Growth.{after_saying}
 use Rattle.fab_rules.proofs.Growing.{waiting_grown, waiting_has_grown, rules_before}
+use Rattle.fab_rules.proofs.Lists.{of_filter}
 use Rattle.fab_rules.proofs.Fitting.{few_requests, each_request_fits}
 use Rattle.fab_machine.specs.State.{Local, Replica, wanted}
 use Rattle.fab_machine.specs.Items.{statements_by, statements_in}
@@ -208,7 +209,7 @@ served_local : (r : Roster) (me : ReplicaId) (l : Local) (round : ℕ) (ran : Ru
 served_local r me l round ran full more are =
     let last = stamps_after l.last ran.block.batch ran.outcomes in
     local_beside r me l l.next (still_proposed round l.proposed) (still_waiting last l.waiting) last round l.kept full (omega arith) more
-    (waiting_filtered r me l.waiting full _ are.waiting) are.kept are
+    (waiting_filtered r me l.waiting _ are.is.waiting) (λ x h. are.heard.requests x (of_filter _ x l.waiting h).0) are.heard.messages are
 
 -- ---- the step
 

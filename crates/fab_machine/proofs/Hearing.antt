@@ -1,8 +1,7 @@
 -- Hearing a proposal, a vote or a request keeps the relation, whatever it is answered.
-use Rattle.std.proofs.Common.{◌≡◌, ℕ, ◌<◌, ◌≤◌, Bool, true, false, not, cond, nat_le, nat_lt, nat_eq, List, [], ◌∷◌, ◌++◌, length, Option, Some, None, is_some, inl, inr, refl, sym, ap, subst, ◌∙◌, arith}
+use Rattle.std.proofs.Common.{◌≡◌, ℕ, ◌<◌, ◌≤◌, Bool, true, false, cond, List, [], ◌∷◌, ◌++◌, length, Option, Some, None, is_some, inl, inr, refl, sym, ap, subst, ◌∙◌, arith}
 use Rattle.std.specs.Option.{IsSome, option_map, option_and_then}
 use Rattle.std.proofs.lemmas.Bool.{cases_lt}
-use Rattle.std.proofs.lemmas.Bool.Decides.{nat_tests}
 use Rattle.fab_base.specs.Limits.{Roster}
 use Rattle.fab_base.specs.Digests.{same_digest}
 use Rattle.fab_base.specs.declared.ids.ReplicaId.{ReplicaId}
@@ -13,10 +12,8 @@ use Rattle.fab_base.specs.declared.messages.PrePrepare.{PrePrepare}
 use Rattle.fab_base.specs.declared.messages.Message.{Message}
 use Rattle.fab_base.specs.declared.answers.Answer.{Answer}
 use Rattle.fab_base.specs.declared.answers.Take.{Take}
-use Rattle.fab_base.proofs.Tests.{same}
 use Rattle.fab_rules.specs.Lists.{In}
 use Rattle.fab_rules.specs.Digests.{batch_digest}
-use Rattle.fab_rules.specs.Shape.{is_batch_of}
 use Rattle.fab_rules.specs.Diary.{Entry, Heard, Said}
 use Rattle.fab_rules.specs.Rules.{KeepsRules}
 use Rattle.fab_rules.proofs.Lists.{in_append_cases}
@@ -24,55 +21,22 @@ use Rattle.pbft_slots.specs.declared.slot.Proposal.{Proposal}
 use Rattle.pbft_slots.specs.declared.slot.Slot.{Slot}
 use Rattle.pbft_slots.specs.Ballots.{Counted}
 use Rattle.pbft_slots.specs.Slots.{proposal_answer, first_proposal, with_proposal}
-use Rattle.pbft_slots.specs.Window.{Window, high, refusal_by, place_in, slot_at, proposal_at, prepared_at, pre_prepare_answer, prepare_answer, commit_answer, answer_by, after_pre_prepare, after_prepare, after_commit}
+use Rattle.pbft_slots.specs.Window.{Window, high, slot_at, proposal_at, prepared_at, pre_prepare_answer, prepare_answer, commit_answer, answer_by, after_pre_prepare}
 use Rattle.pbft_slots.proofs.Places.{slot_here, slot_is_open, place_far, place_open}
-use Rattle.fab_machine.specs.State.{Local, wanted, wanted_by}
+use Rattle.fab_machine.specs.State.{Local, wanted}
 use Rattle.fab_machine.specs.Items.{vote_of}
 use Rattle.fab_machine.specs.Voting.{vote_refusal, kept_by, refused, after_count, outs_after, prepare_told, commit_told, proposal_told, prepare_by, commit_by, proposal_by, hear_prepare, hear_commit, hear_proposal}
 use Rattle.fab_machine.specs.Requests.{request_answer, waiting_by, hear_request}
 use Rattle.fab_machine.specs.Step.{hear}
-use Rattle.fab_machine.specs.Relation.{IsKeptVote, IsHeldBatch, AreHeld, IsPast, AreLocal}
+use Rattle.fab_machine.specs.Relation.{IsBatchKnown, AreHeard, IsPast, AreLocal}
 use Rattle.fab_machine.proofs.Members.{IsMember}
-use Rattle.fab_machine.proofs.Shaped.{prepare_slot, commit_slot, proposal_slot, proposal_homes}
-use Rattle.fab_machine.proofs.Windows.{later_by_proposal, later_by_prepare, later_by_commit, IsThisVote, prepare_heard, commit_heard, proposal_heard, proposal_after_prepare, proposal_after_commit, commit_after_prepare, prepare_after_commit, prepare_after_proposal, commit_after_proposal}
-use Rattle.fab_machine.proofs.Waiting.{answered}
+use Rattle.fab_machine.proofs.Shaped.{prepare_slot, commit_slot, proposal_slot}
+use Rattle.fab_machine.proofs.Windows.{later_by_proposal, later_by_prepare, later_by_commit, prepare_heard, commit_heard, proposal_heard, proposal_after_prepare, proposal_after_commit, commit_after_prepare, prepare_after_commit, prepare_after_proposal, commit_after_proposal}
+use Rattle.fab_machine.proofs.Waiting.{in_answered}
+use Rattle.fab_machine.proofs.States.{IsForView, for_view, prepare_counted, commit_counted, proposal_counted, prepare_state, commit_state, proposal_state, request_state}
 use Rattle.fab_machine.proofs.Locals.{local_beside, local_later}
 use Rattle.fab_machine.proofs.Putting.{prepare_may, prepare_noted}
 use Rattle.fab_machine.proofs.Telling.{IsToldOf, told_nothing, unmoved_told, own, calm_view, told_put, told_counted, counted_still}
-
--- ---- which messages are for the open slots of the view
-
-record IsForView (me : ReplicaId) (l : Local) (cluster view slot : ℕ) : Type 0 where
-  cluster_is : cluster ≡ me.cluster
-  above : l.slots.low < slot
-  view_is : view ≡ l.view
-  calm : l.changing ≡ None
-
-more_than : (a b : ℕ) → nat_le a b ≡ false → b < a
-more_than a b h = grind (arith, nat_tests)
-
-at_least : (a b : ℕ) → nat_lt a b ≡ false → b ≤ a
-at_least a b h = grind (arith, nat_tests)
-
-for_view : (me : ReplicaId) (l : Local) (cluster view slot : ℕ) → ((asked : ℕ) → l.changing ≡ Some asked → l.view < asked)
-    → vote_refusal me l cluster view slot ≡ None → IsForView me l cluster view slot
-for_view me l cluster view slot wants h =
-    go (nat_eq cluster me.cluster) (nat_le slot l.slots.low) (nat_lt view (wanted l)) (nat_lt l.view view) refl refl refl refl h
-  where
-    calm : (c : Option ℕ) → l.changing ≡ c → wanted_by c l.view ≤ view → view ≤ l.view → (view ≡ l.view) × (c ≡ None)
-    calm None e a b = (omega (arith, a, b), refl)
-    calm (Some asked) e a b = absurd (omega (arith, wants asked e, a, b))
-
-    go : (a b c d : Bool) → nat_eq cluster me.cluster ≡ a → nat_le slot l.slots.low ≡ b → nat_lt view (wanted l) ≡ c → nat_lt l.view view ≡ d
-        → cond (not a) (Some Take.Stray) (cond b (Some (Take.Old l.slots.low)) (cond c (Some (Take.OtherView (wanted l))) (cond d (Some (Take.Ahead l.view)) (refusal_by (place_in l.slots slot))))) ≡ None
-        → IsForView me l cluster view slot
-    go false b c d p q s t e = cc
-    go true true c d p q s t e = cc
-    go true false true d p q s t e = cc
-    go true false false true p q s t e = cc
-    go true false false false p q s t e =
-        let k = calm l.changing refl (at_least view (wanted l) s) (at_least l.view view t) in
-        record { cluster_is = same cluster me.cluster p; above = more_than slot l.slots.low q; view_is = k.0; calm = k.1 }
 
 -- ---- a message that isn't counted
 
@@ -95,8 +59,8 @@ refused_told : (r : Roster) (me : ReplicaId) (l : Local) (m : Message) (how : Ta
     → In (Heard m) full → IsToldOf r me l (refused l m how) full
 refused_told r me l m how full rules are heard =
     let now = kept_by how l.kept m in
-    let local = local_beside r me l l.next l.proposed l.waiting l.last l.executed now full (omega arith) (omega arith) are.waiting
-    (kept_heard full how l.kept m heard are.kept) are in
+    let local = local_beside r me l l.next l.proposed l.waiting l.last l.executed now full (omega arith) (omega arith) are.is.waiting are.heard.requests
+    (kept_heard full how l.kept m heard are.heard.messages) are in
     record {
       told = told_nothing r me (record l { kept = now }) full rules local;
       still = record { wanted_is = refl; executed_is = refl; last_is = refl };
@@ -108,20 +72,6 @@ commits_before : (r : Roster) (me : ReplicaId) (l : Local) (full : List Entry) �
     → IsPast l v.view v.slot (IsSome (prepared_at l.slots v.slot))
 commits_before r me l full are v h = let n = are.noted (Message.Commit v) h in n.past
 
--- the vote that was heard is kept under its own sender, view, slot and digest
-this_vote : (kind : Vote → Message) (me : ReplicaId) (l : Local) (full : List Entry) (v : Vote) (s i : ℕ) (c : Counted Vote) → In (Heard (kind v)) full
-    → IsForView me l v.signer.cluster v.view v.slot → IsThisVote v.signer.index v.slot s i (record { digest = v.digest; kept = v }) c
-    → IsKeptVote kind me full l.view s i c
-this_vote kind me l full v s i c heard for it =
-    let first : IsKeptVote kind me full l.view v.slot v.signer.index (record { digest = v.digest; kept = v }) = record {
-      heard = heard;
-      signer = ap (λ k. let x : ReplicaId = record { cluster = k; index = v.signer.index } in x) for.cluster_is;
-      votes_for = record { view_is = for.view_is; slot_is = refl; digest_is = refl };
-    } in
-    subst (λ d. IsKeptVote kind me full l.view s i d) (sym it.vote_is)
-    (subst (λ j. IsKeptVote kind me full l.view s j (record { digest = v.digest; kept = v })) (sym it.sender_is)
-    (subst (λ t. IsKeptVote kind me full l.view t v.signer.index (record { digest = v.digest; kept = v })) (sym it.slot_is) first))
-
 -- ---- a Prepare
 
 prepare_told_keeps : (r : Roster) (me : ReplicaId) (l : Local) (v : Vote) (full : List Entry) → IsMember r me → KeepsRules r me full
@@ -129,20 +79,23 @@ prepare_told_keeps : (r : Roster) (me : ReplicaId) (l : Local) (v : Vote) (full 
     → IsToldOf r me l (prepare_told r me l v how) full
 prepare_told_keeps r me l v full is rules are heard for Take.Taken =
     let w = l.slots in
+    let i = v.signer.index in
     let c : Counted Vote = record { digest = v.digest; kept = v } in
-    let now = after_prepare w v.signer.index v.slot c in
-    let later = later_by_prepare w v.signer.index v.slot c are.opened.window in
-    let held : AreHeld r me l.view now full = record {
-      proposals = λ s p h. are.held.proposals s p (proposal_after_prepare w v.signer.index v.slot s c p h);
-      prepares = λ s i d h. (elim (prepare_heard w v.signer.index v.slot s i c d h) [
-        | inl old ↦ are.held.prepares s i d old
-        | inr it ↦ this_vote Message.Prepare me l full v s i d heard for it
+    let now = prepare_counted l v in
+    let h = are.heard in
+    let heard_now : AreHeard now l.waiting l.kept full = record {
+      proposals = λ s p q. h.proposals s p (proposal_after_prepare w i v.slot s c p q);
+      prepares = λ s j d q. (elim (prepare_heard w i v.slot s j c d q) [
+        | inl old ↦ h.prepares s j d old
+        | inr it ↦ subst (λ x. In (Heard (Message.Prepare x.kept)) full) (sym it.vote_is) heard
       ]);
-      commits = λ s i d h. are.held.commits s i d (commit_after_prepare w v.signer.index v.slot s i c d h);
+      commits = λ s j d q. h.commits s j d (commit_after_prepare w i v.slot s j c d q);
+      requests = h.requests;
+      messages = h.messages;
     } in
+    let at = local_later r me l now full (later_by_prepare w i v.slot c are.is.opened.window) (prepare_state r me l v are.is for) heard_now are in
     record {
-      told = told_counted r me l now v.slot full is for.calm (prepare_slot r v (are.shaped (Message.Prepare v) heard)) refl
-          (commits_before r me l full are) rules (local_later r me l now full later held are);
+      told = told_counted r me l now v.slot full is for.calm (prepare_slot r v (are.shaped (Message.Prepare v) heard)) refl (commits_before r me l full are) rules at;
       still = counted_still l now v.slot;
     }
 prepare_told_keeps r me l v full is rules are heard for how = unmoved_told r me l (Answer.Heard how) full rules are
@@ -154,7 +107,7 @@ hear_prepare_keeps r me l v full is rules are heard = go (vote_refusal me l v.si
     go : (o : Option Take) → vote_refusal me l v.signer.cluster v.view v.slot ≡ o → IsToldOf r me l (prepare_by r me l v o) full
     go (Some how) e = refused_told r me l (Message.Prepare v) how full rules are heard
     go None e =
-        prepare_told_keeps r me l v full is rules are heard (for_view me l v.signer.cluster v.view v.slot are.wants e)
+        prepare_told_keeps r me l v full is rules are heard (for_view me l v.signer.cluster v.view v.slot are.is.wants e)
         (prepare_answer l.slots v.signer.index v.slot v.digest)
 
 -- ---- a Commit
@@ -164,20 +117,24 @@ commit_told_keeps : (r : Roster) (me : ReplicaId) (l : Local) (v : Vote) (full :
     → IsToldOf r me l (commit_told r me l v how) full
 commit_told_keeps r me l v full is rules are heard for Take.Taken =
     let w = l.slots in
+    let i = v.signer.index in
     let c : Counted Vote = record { digest = v.digest; kept = v } in
-    let now = after_commit w v.signer.index v.slot c in
-    let later = later_by_commit w v.signer.index v.slot c are.opened.window in
-    let held : AreHeld r me l.view now full = record {
-      proposals = λ s p h. are.held.proposals s p (proposal_after_commit w v.signer.index v.slot s c p h);
-      prepares = λ s i d h. are.held.prepares s i d (prepare_after_commit w v.signer.index v.slot s i c d h);
-      commits = λ s i d h. (elim (commit_heard w v.signer.index v.slot s i c d h) [
-        | inl old ↦ are.held.commits s i d old
-        | inr it ↦ this_vote Message.Commit me l full v s i d heard for it
+    let now = commit_counted l v in
+    let h = are.heard in
+    let heard_now : AreHeard now l.waiting l.kept full = record {
+      proposals = λ s p q. h.proposals s p (proposal_after_commit w i v.slot s c p q);
+      prepares = λ s j d q. h.prepares s j d (prepare_after_commit w i v.slot s j c d q);
+      commits = λ s j d q. (elim (commit_heard w i v.slot s j c d q) [
+        | inl old ↦ h.commits s j d old
+        | inr it ↦ subst (λ x. In (Heard (Message.Commit x.kept)) full) (sym it.vote_is) heard
       ]);
+      requests = h.requests;
+      messages = h.messages;
     } in
+    let at = local_later r me l now full (later_by_commit w i v.slot c are.is.opened.window) (commit_state r me l v are.is for) heard_now are in
     record {
       told = told_counted r me l now v.slot full is for.calm (commit_slot r (Message.Commit v) v (are.shaped (Message.Commit v) heard) (inl refl)) refl
-          (commits_before r me l full are) rules (local_later r me l now full later held are);
+          (commits_before r me l full are) rules at;
       still = counted_still l now v.slot;
     }
 commit_told_keeps r me l v full is rules are heard for how = unmoved_told r me l (Answer.Heard how) full rules are
@@ -189,7 +146,7 @@ hear_commit_keeps r me l v full is rules are heard = go (vote_refusal me l v.sig
     go : (o : Option Take) → vote_refusal me l v.signer.cluster v.view v.slot ≡ o → IsToldOf r me l (commit_by r me l v o) full
     go (Some how) e = refused_told r me l (Message.Commit v) how full rules are heard
     go None e =
-        commit_told_keeps r me l v full is rules are heard (for_view me l v.signer.cluster v.view v.slot are.wants e)
+        commit_told_keeps r me l v full is rules are heard (for_view me l v.signer.cluster v.view v.slot are.is.wants e)
         (commit_answer l.slots v.signer.index v.slot v.digest)
 
 -- ---- a proposal
@@ -239,31 +196,31 @@ proposal_told_keeps r me l p full is rules are heard for Take.Taken answer =
     let w = l.slots in
     let d = batch_digest p.batch in
     let g : Proposal = record { digest = d; batch = p.batch } in
-    let now = after_pre_prepare w p.slot g in
-    let later = later_by_proposal w p.slot g are.opened.window in
+    let now = proposal_counted l p in
     let free = is_free w p.slot d for.above answer in
     let fine = are.shaped (Message.PrePrepare p) heard in
     let low_enough = proposal_slot r p fine in
     let x = Message.Prepare (vote_of me l.view p.slot d) in
-    let homes : is_batch_of r me.cluster p.batch ≡ true = subst (λ k. is_batch_of r k p.batch ≡ true) for.cluster_is (proposal_homes r p fine) in
-    let it_is : IsHeldBatch r me full g =
-    record { digest_is = refl; known = inr (record { message = Message.PrePrepare p; heard = heard; inside = inl refl }); homes = homes } in
-    let held : AreHeld r me l.view now full = record {
-      proposals = λ s q h. (elim (proposal_heard w p.slot s g q h) [
-        | inl old ↦ are.held.proposals s q old
-        | inr it ↦ subst (λ y. IsHeldBatch r me full y) (sym it.1) it_is
+    let h = are.heard in
+    let known : IsBatchKnown full p.batch = inr (record { message = Message.PrePrepare p; heard = heard; inside = inl refl }) in
+    let heard_now : AreHeard now l.waiting l.kept full = record {
+      proposals = λ s q y. (elim (proposal_heard w p.slot s g q y) [
+        | inl old ↦ h.proposals s q old
+        | inr it ↦ subst (λ z. IsBatchKnown full z.batch) (sym it.1) known
       ]);
-      prepares = λ s i c h. are.held.prepares s i c (prepare_after_proposal w p.slot s i g c h);
-      commits = λ s i c h. are.held.commits s i c (commit_after_proposal w p.slot s i g c h);
+      prepares = λ s i c y. h.prepares s i c (prepare_after_proposal w p.slot s i g c y);
+      commits = λ s i c y. h.commits s i c (commit_after_proposal w p.slot s i g c y);
+      requests = h.requests;
+      messages = h.messages;
     } in
-    let at = local_later r me l now full later held are in
+    let at = local_later r me l now full (later_by_proposal w p.slot g are.is.opened.window) (proposal_state r me l p fine are.is for) heard_now are in
     let holds : IsSome (proposal_at now p.slot) = proposal_held w p.slot g free.at free.at_is free.none in
     let may = prepare_may r me l full p is are for.calm heard for.cluster_is for.view_is for.above low_enough free.none in
     let noted = prepare_noted r me (record l { slots = now }) full p.slot d at holds in
     let still = counted_still l now p.slot in
     let here : wanted (after_count l now p.slot) ≤ l.view = omega (arith, still.wanted_is, calm_view l for.calm) in
     let told = told_counted r me l now p.slot (Said x ∷ full) is for.calm low_enough refl
-    (λ v h. (elim h [ inl e ↦ absurd (prepare_is_no_commit (vote_of me l.view p.slot d) v e) | inr k ↦ commits_before r me l full are v k ])) (may, rules) noted in
+    (λ v q. (elim q [ inl e ↦ absurd (prepare_is_no_commit (vote_of me l.view p.slot d) v e) | inr k ↦ commits_before r me l full are v k ])) (may, rules) noted in
     record { told = told_put r me (after_count l now p.slot) x (outs_after r me l now p.slot) full (own me) here told; still = still }
 proposal_told_keeps r me l p full is rules are heard for how answer = unmoved_told r me l (Answer.Heard how) full rules are
 
@@ -274,7 +231,7 @@ hear_proposal_keeps r me l p full is rules are heard = go (vote_refusal me l p.s
     go : (o : Option Take) → vote_refusal me l p.signer.cluster p.view p.slot ≡ o → IsToldOf r me l (proposal_by r me l p o) full
     go (Some how) e = refused_told r me l (Message.PrePrepare p) how full rules are heard
     go None e =
-        proposal_told_keeps r me l p full is rules are heard (for_view me l p.signer.cluster p.view p.slot are.wants e)
+        proposal_told_keeps r me l p full is rules are heard (for_view me l p.signer.cluster p.view p.slot are.is.wants e)
         (pre_prepare_answer l.slots p.slot (batch_digest p.batch)) refl
 
 -- ---- a request
@@ -282,9 +239,15 @@ hear_proposal_keeps r me l p full is rules are heard = go (vote_refusal me l p.s
 hear_request_keeps : (r : Roster) (me : ReplicaId) (l : Local) (x : Request) (full : List Entry) → KeepsRules r me full → AreLocal r me l full
     → In (Heard (Message.Request x)) full → IsToldOf r me l (hear_request r me l x) full
 hear_request_keeps r me l x full rules are heard =
-    let now = waiting_by (request_answer r me l x) l.waiting x in
-    let local = local_beside r me l l.next l.proposed now l.last l.executed l.kept full (omega arith) (omega arith)
-    (answered r me l full x heard are.waiting) are.kept are in
+    let how = request_answer r me l x in
+    let now = waiting_by how l.waiting x in
+    let requests = λ (y : Request) (q : In y now).
+    (elim (in_answered how l.waiting x y q) as (λ _. In (Heard (Message.Request y)) full) [
+      | inl e ↦ subst (λ z. In (Heard (Message.Request z)) full) e heard
+      | inr k ↦ are.heard.requests y k
+    ]) in
+    let is = request_state r me l x (are.shaped (Message.Request x) heard) are.is in
+    let local = local_beside r me l l.next l.proposed now l.last l.executed l.kept full (omega arith) (omega arith) is.waiting requests are.heard.messages are in
     record {
       told = told_nothing r me (record l { waiting = now }) full rules local;
       still = record { wanted_is = refl; executed_is = refl; last_is = refl };

@@ -11,12 +11,14 @@ pub mod Reporting
 pub mod Waiting
 pub mod Locals
 pub mod Quorums
-pub mod Certifying
+pub mod Certificates
+pub mod States
 pub mod Putting
 pub mod Telling
 pub mod Hearing
 pub mod Proposing
 pub mod Stepping
+pub mod Keeping
 pub mod Blocks
 pub mod Stamps
 pub mod Executing

@@ -1,6 +1,5 @@
 -- The changes of local ordering's state and of the diary of which every step is made: each keeps the relation of the two.
-use Rattle.std.proofs.Common.{◌≡◌, ℕ, ◌≤◌, List, ◌∷◌, length, map, Option, Some, is_some, Result, Ok, Err, inl, inr, refl, sym, subst, ◌∙◌, arith}
-use Rattle.std.proofs.lemmas.List.{length-set}
+use Rattle.std.proofs.Common.{◌≡◌, ℕ, ◌≤◌, List, ◌∷◌, map, is_some, inl, inr, subst, arith}
 use Rattle.fab_base.specs.Limits.{Roster}
 use Rattle.fab_base.specs.declared.ids.ReplicaId.{ReplicaId}
 use Rattle.fab_base.specs.declared.requests.Request.{Request}
@@ -9,7 +8,6 @@ use Rattle.fab_base.specs.declared.messages.PrePrepare.{PrePrepare}
 use Rattle.fab_base.specs.declared.messages.PreparedCert.{PreparedCert}
 use Rattle.fab_base.specs.declared.messages.Note.{Note}
 use Rattle.fab_base.specs.declared.messages.Message.{Message}
-use Rattle.fab_base.specs.declared.answers.Take.{Take}
 use Rattle.fab_rules.specs.Lists.{In}
 use Rattle.fab_rules.specs.Shape.{IsShaped}
 use Rattle.fab_rules.specs.Statements.{signer_of}
@@ -19,29 +17,25 @@ use Rattle.fab_rules.proofs.Lists.{of_map, of_filter}
 use Rattle.pbft_slots.specs.Window.{Window, place_in}
 use Rattle.fab_machine.specs.State.{Proposed, Local}
 use Rattle.fab_machine.specs.Voting.{with_certificate}
-use Rattle.fab_machine.specs.Relation.{AreHeld, AreWaiting, IsQuoting, IsNoted, IsReported, IsEntered, AreLocal}
+use Rattle.fab_machine.specs.LocalState.{AreWaiting, IsLocalState}
+use Rattle.fab_machine.specs.Relation.{AreHeard, IsQuoting, IsNoted, IsReported, IsEntered, AreLocal}
 use Rattle.fab_rules.proofs.Saying.{same_said, said_is_not_heard}
-use Rattle.fab_machine.proofs.MoreHeard.{hears_later, held_more, reported_more, quoting_more}
+use Rattle.fab_machine.proofs.MoreHeard.{hears_later, heard_more, reported_more, quoting_more}
 use Rattle.fab_machine.proofs.Windows.{IsLater}
 use Rattle.fab_machine.proofs.Noting.{is_some_by, noted_beside, noted_later, noted_kept}
-use Rattle.fab_machine.proofs.Waiting.{waiting_grown}
+use Rattle.fab_machine.proofs.States.{state_beside, state_kept}
 use Rattle.fab_machine.proofs.Reporting.{reported_kept, reported_later}
 
 -- ---- beside the view, its slots and its certificates
 
 pub local_beside : (r : Roster) (me : ReplicaId) (l : Local) (next : ℕ) (proposed : List Proposed) (waiting : List Request) (last : List ℕ) (executed : ℕ)
-    (kept : List Message) (full : List Entry) → l.next ≤ next → l.executed ≤ executed → AreWaiting r me waiting full
-    → ((m : Message) → In m kept → In (Heard m) full) → AreLocal r me l full
+    (kept : List Message) (full : List Entry) → l.next ≤ next → l.executed ≤ executed → AreWaiting r me waiting
+    → ((x : Request) → In x waiting → In (Heard (Message.Request x)) full) → ((m : Message) → In m kept → In (Heard m) full) → AreLocal r me l full
     → AreLocal r me (record l { next = next; proposed = proposed; waiting = waiting; last = last; executed = executed; kept = kept }) full
-local_beside r me l next proposed waiting last executed kept full later more wait heard are = record {
-  view_fits = are.view_fits;
-  wants = are.wants;
-  next_from = omega (arith, are.next_from, later);
-  opened = are.opened;
+local_beside r me l next proposed waiting last executed kept full later more wait requests messages are = record {
+  is = state_beside r me l next proposed waiting last executed kept later wait are.is;
   shaped = are.shaped;
-  held = are.held;
-  waiting = wait;
-  kept = heard;
+  heard = (let h = are.heard in record { proposals = h.proposals; prepares = h.prepares; commits = h.commits; requests = requests; messages = messages });
   reported = are.reported;
   quoted = are.quoted;
   noted = λ m h. noted_beside l next proposed waiting last executed kept m later more (are.noted m h);
@@ -58,22 +52,12 @@ entered_later cluster view w now full later h = record {
   filled = λ s a b. is_some_by _ _ (later.proposals s) (h.filled s (omega (arith, a, later.low_is)) b);
 }
 
-pub local_later : (r : Roster) (me : ReplicaId) (l : Local) (now : Window Vote) (full : List Entry) → IsLater l.slots now → AreHeld r me l.view now full
-    → AreLocal r me l full → AreLocal r me (record l { slots = now }) full
-local_later r me l now full later held are = record {
-  view_fits = are.view_fits;
-  wants = are.wants;
-  next_from = are.next_from;
-  opened = record {
-    window = later.whole;
-    members = later.members_is ∙ are.opened.members;
-    width = later.width_is ∙ are.opened.width;
-    places = are.opened.places ∙ sym later.width_is;
-  };
+pub local_later : (r : Roster) (me : ReplicaId) (l : Local) (now : Window Vote) (full : List Entry) → IsLater l.slots now
+    → IsLocalState r me (record l { slots = now }) → AreHeard now l.waiting l.kept full → AreLocal r me l full → AreLocal r me (record l { slots = now }) full
+local_later r me l now full later is heard are = record {
+  is = is;
   shaped = are.shaped;
-  held = held;
-  waiting = are.waiting;
-  kept = are.kept;
+  heard = heard;
   reported = reported_later r me l.view l.slots now l.prepared full later are.reported;
   quoted = are.quoted;
   noted = λ m h. noted_later l now m later (are.noted m h);
@@ -82,28 +66,13 @@ local_later r me l now full later held are = record {
 
 -- ---- a prepared certificate is kept
 
-length-kept : (certificates : List (Option PreparedCert)) (place : Result ℕ Take) (k : PreparedCert)
-    → length (with_certificate certificates place k) ≡ length certificates
-length-kept certificates (Err refused) k = refl
-length-kept certificates (Ok p) k = length-set certificates p (Some k)
-
 pub local_kept : (r : Roster) (me : ReplicaId) (l : Local) (slot : ℕ) (k : PreparedCert) (full : List Entry) → k.view ≡ l.view
     → IsReported r me l.view full slot k → AreLocal r me l full
     → AreLocal r me (record l { prepared = with_certificate l.prepared (place_in l.slots slot) k }) full
 local_kept r me l slot k full view_is report are = record {
-  view_fits = are.view_fits;
-  wants = are.wants;
-  next_from = are.next_from;
-  opened = record {
-    window = are.opened.window;
-    members = are.opened.members;
-    width = are.opened.width;
-    places = length-kept l.prepared (place_in l.slots slot) k ∙ are.opened.places;
-  };
+  is = state_kept r me l slot k are.is;
   shaped = are.shaped;
-  held = are.held;
-  waiting = are.waiting;
-  kept = are.kept;
+  heard = are.heard;
   reported = reported_kept r me l full slot k report are.reported;
   quoted = are.quoted;
   noted = λ m h. noted_kept l slot k m report.slot_is view_is (are.noted m h);
@@ -117,16 +86,12 @@ pub local_said : (r : Roster) (me : ReplicaId) (l : Local) (x : Message) (full :
 local_said r me l x full quotes noted are =
     let more = hears_later (Said x) full in
     record {
-      view_fits = are.view_fits;
-      wants = are.wants;
-      next_from = are.next_from;
-      opened = are.opened;
+      is = are.is;
       shaped = λ m h. (elim h as (λ _. IsShaped r m) [ inl e ↦ absurd (said_is_not_heard x m e) | inr k ↦ are.shaped m k ]);
-      held = held_more r me l.view l.slots full (Said x ∷ full) more are.held;
-      waiting = waiting_grown r me l.waiting full (Said x ∷ full) more are.waiting;
-      kept = λ m h. inr (are.kept m h);
+      heard = heard_more l.slots l.waiting l.kept full (Said x ∷ full) more are.heard;
       reported = reported_more r me l.view l.slots l.prepared full (Said x ∷ full) more are.reported;
-      quoted = λ m h. quoting_more full (Said x ∷ full) m more (elim h as (λ _. IsQuoting full m) [ inl e ↦ subst (IsQuoting full) (same_said x m e) quotes | inr k ↦ are.quoted m k ]);
+      quoted = λ m h. quoting_more full (Said x ∷ full) m more
+          (elim h as (λ _. IsQuoting full m) [ inl e ↦ subst (IsQuoting full) (same_said x m e) quotes | inr k ↦ are.quoted m k ]);
       noted = λ m h. (elim h as (λ _. IsNoted l m) [ inl e ↦ subst (IsNoted l) (same_said x m e) noted | inr k ↦ are.noted m k ]);
       entered = λ e. (let n = are.entered e in record { new_view = n.new_view; is_first = n.is_first; base_is = n.base_is; filled = n.filled });
     }
@@ -154,14 +119,9 @@ proposal_quotes full p heard x (inr k) =
 pub local_grown : (r : Roster) (me : ReplicaId) (l : Local) (a b : List Entry) → HasGrown a b → ((m : Message) → In (Heard m) b → IsShaped r m)
     → AreLocal r me l a → AreLocal r me l b
 local_grown r me l a b g shaped are = record {
-  view_fits = are.view_fits;
-  wants = are.wants;
-  next_from = are.next_from;
-  opened = are.opened;
+  is = are.is;
   shaped = shaped;
-  held = held_more r me l.view l.slots a b g.heard are.held;
-  waiting = waiting_grown r me l.waiting a b g.heard are.waiting;
-  kept = λ m h. g.heard m (are.kept m h);
+  heard = heard_more l.slots l.waiting l.kept a b g.heard are.heard;
   reported = reported_more r me l.view l.slots l.prepared a b g.heard are.reported;
   quoted = λ m h. quoting_more a b m g.heard (are.quoted m (g.said m h));
   noted = λ m h. are.noted m (g.said m h);

@@ -10,7 +10,7 @@ use Rattle.fab_base.specs.declared.messages.Message.{Message}
 use Rattle.fab_rules.specs.Lists.{In}
 use Rattle.fab_rules.specs.Diary.{Entry, Heard}
 use Rattle.pbft_slots.specs.Window.{Window}
-use Rattle.fab_machine.specs.Relation.{IsBatchKnown, AreHeld, AreReported, IsQuoting, IsBacked}
+use Rattle.fab_machine.specs.Relation.{IsBatchKnown, AreHeard, AreReported, IsQuoting, IsBacked}
 
 abbrev pub HearsAll : List Entry → List Entry → Type 0
 HearsAll a b = (m : Message) → In (Heard m) a → In (Heard m) b
@@ -22,12 +22,14 @@ pub known_more : (a b : List Entry) (batch : List Request) → HearsAll a b → 
 known_more a b batch more (inl e) = inl e
 known_more a b batch more (inr h) = inr (record { message = h.message; heard = more h.message h.heard; inside = h.inside })
 
-pub held_more : (r : Roster) (me : ReplicaId) (view : ℕ) (slots : Window Vote) (a b : List Entry) → HearsAll a b → AreHeld r me view slots a
-    → AreHeld r me view slots b
-held_more r me view slots a b more h = record {
-  proposals = λ slot p e. (let x = h.proposals slot p e in record { digest_is = x.digest_is; known = known_more a b p.batch more x.known; homes = x.homes });
-  prepares = λ slot sender c e. (let x = h.prepares slot sender c e in record { heard = more _ x.heard; signer = x.signer; votes_for = x.votes_for });
-  commits = λ slot sender c e. (let x = h.commits slot sender c e in record { heard = more _ x.heard; signer = x.signer; votes_for = x.votes_for });
+pub heard_more : (slots : Window Vote) (waiting : List Request) (kept : List Message) (a b : List Entry) → HearsAll a b → AreHeard slots waiting kept a
+    → AreHeard slots waiting kept b
+heard_more slots waiting kept a b more h = record {
+  proposals = λ slot p e. known_more a b p.batch more (h.proposals slot p e);
+  prepares = λ slot sender c e. more (Message.Prepare c.kept) (h.prepares slot sender c e);
+  commits = λ slot sender c e. more (Message.Commit c.kept) (h.commits slot sender c e);
+  requests = λ x q. more (Message.Request x) (h.requests x q);
+  messages = λ m q. more m (h.messages m q);
 }
 
 pub reported_more : (r : Roster) (me : ReplicaId) (view : ℕ) (slots : Window Vote) (prepared : List (Option PreparedCert)) (a b : List Entry) → HearsAll a b

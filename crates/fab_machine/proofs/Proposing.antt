@@ -52,7 +52,7 @@ proposed_keeps r me l batch full rules are calm primary shaped heard =
       remote_quorum = tt;
       shaped_speech = shaped;
     } in
-    let at = local_beside r me l (l.next + 1) ps l.waiting l.last l.executed l.kept full (omega arith) (omega arith) are.waiting are.kept are in
+    let at = local_beside r me l (l.next + 1) ps l.waiting l.last l.executed l.kept full (omega arith) (omega arith) are.is.waiting are.heard.requests are.heard.messages are in
     let said = local_said r me now x full (proposal_quotes full p heard) (inr (refl, omega arith)) at in
     record {
       told = told_put r me now x [] full (own me) (calm_view l calm) (told_nothing r me now (Said x ∷ full) (may, rules) said);
@@ -83,9 +83,9 @@ propose_keeps r me l nudged known full is rules are = by l.changing refl
         let batch = take r.batch (eligible l) in
         let low_enough = at_most_it GREATEST_NUMBER l.next (or_right (nat_lt (high l.slots) l.next) (nat_lt GREATEST_NUMBER l.next) q) in
         let few : length batch ≤ MOST_REQUESTS = omega (arith, is.small, length-take r.batch (eligible l)) in
-        let heard = λ (x : Request) (h : In x batch). are.waiting.heard x (eligible_waits l r.batch x h) in
-        let shaped = shaped_proposal r me l.view l.next batch is are.view_fits are.next_from low_enough p few
-        (λ x h. are.shaped (Message.Request x) (heard x h)) (λ x h. are.waiting.homes x (eligible_waits l r.batch x h)) in
+        let heard = λ (x : Request) (h : In x batch). are.heard.requests x (eligible_waits l r.batch x h) in
+        let shaped = shaped_proposal r me l.view l.next batch is are.is.view_fits are.is.next_from low_enough p few
+        (λ x h. are.shaped (Message.Request x) (heard x h)) (λ x h. are.is.waiting.homes x (eligible_waits l r.batch x h)) in
         proposed_keeps r me l batch full rules are calm p shaped heard
 
     by : (o : Option ℕ) → l.changing ≡ o → IsToldOf r me l (propose_in r me l nudged known o) full

@@ -15,7 +15,6 @@ use Rattle.fab_rules.specs.Diary.{Entry, Heard, Said}
 use Rattle.fab_rules.specs.Rules.{MaySay}
 use Rattle.fab_rules.proofs.Digests.{batch_digest_fits}
 use Rattle.pbft_slots.specs.Window.{place_in, proposal_at, prepared_at}
-use Rattle.pbft_slots.proofs.Agreement.{quorum_counted}
 use Rattle.fab_machine.specs.State.{Local, wanted, wanted_by}
 use Rattle.fab_machine.specs.Items.{vote_of}
 use Rattle.fab_machine.specs.Voting.{with_certificate, prepared_certificate}
@@ -23,9 +22,9 @@ use Rattle.fab_machine.specs.Relation.{IsPast, IsNoted, AreLocal}
 use Rattle.fab_machine.proofs.Members.{IsMember}
 use Rattle.fab_machine.proofs.Shaping.{shaped_prepare, shaped_commit}
 use Rattle.fab_machine.proofs.Noting.{covers_slot}
-use Rattle.fab_machine.proofs.Reporting.{certificate_reported}
+use Rattle.fab_machine.proofs.Certificates.{certificate_reported}
 use Rattle.fab_machine.proofs.Locals.{local_kept, local_said, prepare_quotes, commit_quotes}
-use Rattle.fab_machine.proofs.Quorums.{prepared_slot, open_slot, agreed_batch, agreed_digest_fits, prepares_kept, votes_heard}
+use Rattle.fab_machine.proofs.Quorums.{prepared_slot, open_slot, agreed_batch, agreed_digest_fits, prepares_kept, prepares_heard, votes_heard}
 
 -- the view isn't left: no ViewChange beyond it was put
 pub not_left : (l : Local) (full : List Entry) → l.changing ≡ None → ((m : Message) → In (Said m) full → IsNoted l m) → (c : ViewChange)
@@ -41,21 +40,22 @@ pub commit_may : (r : Roster) (me : ReplicaId) (l : Local) (full : List Entry) (
     → ((v : Vote) → In (Said (Message.Commit v)) full → v.view ≡ l.view → v.slot ≡ slot → ⊥)
     → MaySay r me full (Message.Commit (vote_of me l.view slot d))
 commit_may r me l full slot d is are calm prepared low_enough fresh =
-    let s = prepared_slot l.slots slot d are.opened.window prepared in
-    let o = open_slot l.slots slot s.at s.at_is in
-    let b = agreed_batch (λ t. t.prepares) r me l.view l.slots full slot d are.held s in
+    let w = l.slots in
+    let s = prepared_slot w slot d are.is.opened.window prepared in
+    let o = open_slot w slot s.at s.at_is in
+    let b = agreed_batch (λ t. t.prepares) r me l.view w slot d are.is.held s in
     record {
       one_vote = fresh;
       prepare_rule = tt;
-      commit_rule = votes_heard r me Message.Prepare full l.slots.members l.view slot s.at.prepares d are.opened.members
-          (prepares_kept r me l.view l.slots full slot s.at are.held s.at_is) s.agreed.quorum;
+      commit_rule = votes_heard r me Message.Prepare full w.members l.view slot s.at.prepares d are.is.opened.members
+          (prepares_kept r me l.view w slot s.at are.is.held s.at_is) (prepares_heard w l.waiting l.kept full slot s.at are.heard s.at_is) s.agreed.quorum;
       views_rise = not_left l full calm are.noted;
       change_reports = tt;
       primary_only = tt;
       checkpoint_rule = tt;
       note_rule = tt;
       remote_quorum = tt;
-      shaped_speech = shaped_commit r me l.view slot d is are.view_fits (omega (arith, o.1.above)) low_enough (agreed_digest_fits r me full l.slots slot d b);
+      shaped_speech = shaped_commit r me l.view slot d is are.is.view_fits (omega (arith, o.1.above)) low_enough (agreed_digest_fits r me w slot d b);
     }
 
 -- its certificate is kept, and it is said
@@ -64,16 +64,15 @@ pub commit_noted : (r : Roster) (me : ReplicaId) (l : Local) (full : List Entry)
     → AreLocal r me (record l { prepared = with_certificate l.prepared (place_in l.slots slot) (prepared_certificate l slot d) })
     (Said (Message.Commit (vote_of me l.view slot d)) ∷ full)
 commit_noted r me l full slot d are prepared =
-    let s = prepared_slot l.slots slot d are.opened.window prepared in
+    let s = prepared_slot l.slots slot d are.is.opened.window prepared in
     let o = open_slot l.slots slot s.at s.at_is in
     let v = vote_of me l.view slot d in
     let k = prepared_certificate l slot d in
     let now : Local = record l { prepared = with_certificate l.prepared (place_in l.slots slot) k } in
-    let enough = quorum_counted l.slots.members s.at.prepares d s.size s.agreed.quorum in
-    let report = certificate_reported r me l full slot d s.at s.agreed.proposal s.at_is s.agreed.is_given s.agreed.bears are.opened.members are.held enough in
+    let report = certificate_reported r me l full slot d are.is are.heard prepared in
     let here : IsSome (prepared_at l.slots slot) = ap is_some prepared in
     local_said r me now (Message.Commit v) full (commit_quotes full v)
-    (record { past = inr (refl, inr here); covered = covers_slot l k v o.0 refl (omega arith) are.opened.places o.1.place_is o.1.within })
+    (record { past = inr (refl, inr here); covered = covers_slot l k v o.0 refl (omega arith) are.is.opened.places o.1.place_is o.1.within })
     (local_kept r me l slot k full refl report are)
 
 -- ---- a Prepare
@@ -109,7 +108,7 @@ prepare_may r me l full p is are calm heard from view_is above low_enough free =
       checkpoint_rule = tt;
       note_rule = tt;
       remote_quorum = tt;
-      shaped_speech = shaped_prepare r me l.view p.slot (batch_digest p.batch) is are.view_fits (omega (arith, above)) low_enough (batch_digest_fits p.batch);
+      shaped_speech = shaped_prepare r me l.view p.slot (batch_digest p.batch) is are.is.view_fits (omega (arith, above)) low_enough (batch_digest_fits p.batch);
     }
 
 -- in a slot that holds a batch

@@ -9,6 +9,7 @@ use Rattle.fab_base.specs.Quorums.{IsQuorum}
 use Rattle.fab_base.specs.Roster.{size_of}
 use Rattle.fab_base.specs.declared.ids.ReplicaId.{ReplicaId}
 use Rattle.fab_base.specs.declared.ids.Hash32.{Hash32}
+use Rattle.fab_base.specs.declared.requests.Request.{Request}
 use Rattle.fab_base.specs.declared.messages.Vote.{Vote}
 use Rattle.fab_base.specs.declared.messages.Message.{Message}
 use Rattle.fab_base.specs.declared.answers.Take.{Take}
@@ -28,7 +29,8 @@ use Rattle.pbft_slots.proofs.Agreement.{agreed_is}
 use Rattle.pbft_slots.proofs.Places.{is_place}
 use Rattle.fab_machine.specs.Items.{member_of}
 use Rattle.fab_machine.specs.Voting.{batch_or_null}
-use Rattle.fab_machine.specs.Relation.{IsKeptVote, IsHeldBatch, AreHeld}
+use Rattle.fab_machine.specs.LocalState.{IsKeptVote, IsHeldBatch, AreHeld}
+use Rattle.fab_machine.specs.Relation.{AreHeard}
 use Rattle.fab_machine.proofs.Windows.{of_open}
 
 -- ---- the slot
@@ -72,48 +74,57 @@ open_slot w slot t h = go (place_in w slot) refl h
 -- ---- its batch
 
 -- the digest on which the votes agree is that of the held batch
-pub record IsAgreedBatch (r : Roster) (me : ReplicaId) (full : List Entry) (w : Window Vote) (slot : ℕ) (d : Hash32) : Type 0 where
+pub record IsAgreedBatch (r : Roster) (me : ReplicaId) (w : Window Vote) (slot : ℕ) (d : Hash32) : Type 0 where
   pub proposal : Proposal
-  pub held : IsHeldBatch r me full proposal
+  pub there : proposal_at w slot ≡ Some proposal
+  pub held : IsHeldBatch r me proposal
   pub batch_is : batch_or_null (batch_at w slot) ≡ proposal.batch
   pub digest_is : d ≡ batch_digest (batch_or_null (batch_at w slot))
 
-pub agreed_batch : (kind : Slot Vote → List (Option (Counted Vote))) (r : Roster) (me : ReplicaId) (view : ℕ) (w : Window Vote) (full : List Entry)
-    (slot : ℕ) (d : Hash32) → AreHeld r me view w full → IsAgreedSlot kind w slot d → IsAgreedBatch r me full w slot d
-agreed_batch kind r me view w full slot d held s =
+pub agreed_batch : (kind : Slot Vote → List (Option (Counted Vote))) (r : Roster) (me : ReplicaId) (view : ℕ) (w : Window Vote)
+    (slot : ℕ) (d : Hash32) → AreHeld r me view w → IsAgreedSlot kind w slot d → IsAgreedBatch r me w slot d
+agreed_batch kind r me view w slot d held s =
     let p = s.agreed.proposal in
     let there : proposal_at w slot ≡ Some p = ap (option_and_then (λ t. t.proposal)) s.at_is ∙ s.agreed.is_given in
     let holds = held.proposals slot p there in
     let batch_is : batch_or_null (batch_at w slot) ≡ p.batch = ap (λ o. batch_or_null (option_map (λ x. x.batch) o)) there in
     record {
       proposal = p;
+      there = there;
       held = holds;
       batch_is = batch_is;
       digest_is = sym s.agreed.bears ∙ (holds.digest_is ∙ ap batch_digest (sym batch_is));
     }
 
-pub agreed_digest_fits : (r : Roster) (me : ReplicaId) (full : List Entry) (w : Window Vote) (slot : ℕ) (d : Hash32) → IsAgreedBatch r me full w slot d
-    → digest_fits d ≡ true
-agreed_digest_fits r me full w slot d b = ap digest_fits b.digest_is ∙ batch_digest_fits (batch_or_null (batch_at w slot))
+pub agreed_digest_fits : (r : Roster) (me : ReplicaId) (w : Window Vote) (slot : ℕ) (d : Hash32) → IsAgreedBatch r me w slot d → digest_fits d ≡ true
+agreed_digest_fits r me w slot d b = ap digest_fits b.digest_is ∙ batch_digest_fits (batch_or_null (batch_at w slot))
 
 -- ---- its votes
 
-pub prepares_kept : (r : Roster) (me : ReplicaId) (view : ℕ) (w : Window Vote) (full : List Entry) (slot : ℕ) (t : Slot Vote) → AreHeld r me view w full
-    → slot_at w slot ≡ Some t → (sender : ℕ) (c : Counted Vote) → value_of t.prepares sender ≡ Some c → IsKeptVote Message.Prepare me full view slot sender c
-prepares_kept r me view w full slot t held at_is sender c e =
-    held.prepares slot sender c (ap (option_and_then (λ x. value_of x.prepares sender)) at_is ∙ e)
+module _ (r : Roster) (me : ReplicaId) (view : ℕ) (w : Window Vote) (slot : ℕ) (t : Slot Vote) where
+  pub prepares_kept : AreHeld r me view w → slot_at w slot ≡ Some t → (sender : ℕ) (c : Counted Vote) → value_of t.prepares sender ≡ Some c
+      → IsKeptVote me view slot sender c
+  prepares_kept held at_is sender c e = held.prepares slot sender c (ap (option_and_then (λ x. value_of x.prepares sender)) at_is ∙ e)
 
-pub commits_kept : (r : Roster) (me : ReplicaId) (view : ℕ) (w : Window Vote) (full : List Entry) (slot : ℕ) (t : Slot Vote) → AreHeld r me view w full
-    → slot_at w slot ≡ Some t → (sender : ℕ) (c : Counted Vote) → value_of t.commits sender ≡ Some c → IsKeptVote Message.Commit me full view slot sender c
-commits_kept r me view w full slot t held at_is sender c e =
-    held.commits slot sender c (ap (option_and_then (λ x. value_of x.commits sender)) at_is ∙ e)
+  pub commits_kept : AreHeld r me view w → slot_at w slot ≡ Some t → (sender : ℕ) (c : Counted Vote) → value_of t.commits sender ≡ Some c
+      → IsKeptVote me view slot sender c
+  commits_kept held at_is sender c e = held.commits slot sender c (ap (option_and_then (λ x. value_of x.commits sender)) at_is ∙ e)
+
+module _ (w : Window Vote) (waiting : List Request) (kept : List Message) (full : List Entry) (slot : ℕ) (t : Slot Vote) where
+  pub prepares_heard : AreHeard w waiting kept full → slot_at w slot ≡ Some t → (sender : ℕ) (c : Counted Vote) → value_of t.prepares sender ≡ Some c
+      → In (Heard (Message.Prepare c.kept)) full
+  prepares_heard heard at_is sender c e = heard.prepares slot sender c (ap (option_and_then (λ x. value_of x.prepares sender)) at_is ∙ e)
+
+  pub commits_heard : AreHeard w waiting kept full → slot_at w slot ≡ Some t → (sender : ℕ) (c : Counted Vote) → value_of t.commits sender ≡ Some c
+      → In (Heard (Message.Commit c.kept)) full
+  commits_heard heard at_is sender c e = heard.commits slot sender c (ap (option_and_then (λ x. value_of x.commits sender)) at_is ∙ e)
 
 -- the counted votes of a quorum were heard from it
 pub votes_heard : (r : Roster) (me : ReplicaId) (kind : Vote → Message) (full : List Entry) (n view slot : ℕ) (votes : List (Option (Counted Vote))) (d : Hash32)
-    → n ≡ size_of r me.cluster
-    → ((sender : ℕ) (c : Counted Vote) → value_of votes sender ≡ Some c → IsKeptVote kind me full view slot sender c) → HasQuorum n votes d
+    → n ≡ size_of r me.cluster → ((sender : ℕ) (c : Counted Vote) → value_of votes sender ≡ Some c → IsKeptVote me view slot sender c)
+    → ((sender : ℕ) (c : Counted Vote) → value_of votes sender ≡ Some c → In (Heard (kind c.kept)) full) → HasQuorum n votes d
     → QuorumHeard r (λ v. In (Heard (kind v)) full) me.cluster view slot d
-votes_heard r me kind full n view slot votes d size kept q = record {
+votes_heard r me kind full n view slot votes d size kept heard q = record {
   members = q.0;
   quorum = subst (λ k. IsQuorum k q.0) size q.1;
   each = λ k h. go k (value_of votes k) refl (All-contains (λ sender. digest_of votes sender ≡ Some d) q.0 k q.2 (contains_from_in q.0 k h));
@@ -127,7 +138,7 @@ votes_heard r me kind full n view slot votes d size kept q = record {
         let same : c.digest ≡ d = cc in
         record {
           vote = c.kept;
-          heard = x.heard;
+          heard = heard k c e;
           signer = x.signer;
           votes_for = record { view_is = x.votes_for.view_is; slot_is = x.votes_for.slot_is; digest_is = x.votes_for.digest_is ∙ same };
         }

@@ -15,7 +15,7 @@ use Rattle.fab_rules.specs.Format.{request_fits, batch_fits}
 use Rattle.fab_rules.specs.Statements.{signer_of, parts_of, statements_of, batches_of}
 use Rattle.fab_rules.specs.Shape.{is_known, is_view, is_slot, is_vote, is_batch_of, keeps_shape, certificate_misfits, unless, numbered, stranger_at, misfits_at, misfits, IsShaped}
 use Rattle.fab_rules.proofs.Lists.{of_filter}
-use Rattle.fab_rules.proofs.Fitting.{fields_are, each_batch_fits}
+use Rattle.fab_rules.proofs.Fitting.{fields_are, proposal_batch_fits, each_batch_fits}
 
 -- ---- lists of misfits
 
@@ -93,6 +93,9 @@ pub proposal_homes : (r : Roster) (p : PrePrepare) → IsShaped r (Message.PrePr
 proposal_homes r p shaped =
     let keeps = part_keeps r (Message.PrePrepare p) (Message.PrePrepare p) shaped (inl refl) in
     and_right (is_view p.view && is_slot p.slot) _ (and_left (is_view p.view && is_slot p.slot && is_batch_of r p.signer.cluster p.batch) _ keeps)
+
+pub shaped_proposal_fits : (r : Roster) (p : PrePrepare) → IsShaped r (Message.PrePrepare p) → batch_fits p.batch ≡ true
+shaped_proposal_fits r p shaped = proposal_batch_fits p (fields_are (Message.PrePrepare p) shaped.spelled)
 
 -- ---- requests and batches
 

@@ -14,6 +14,7 @@ use Rattle.pbft_slots.specs.Slots.{empty_slot}
 use Rattle.pbft_slots.specs.Window.{empty_window, place_in, slot_at}
 use Rattle.pbft_slots.proofs.Opened.{window_new}
 use Rattle.fab_machine.specs.State.{fresh_local, fresh}
+use Rattle.fab_machine.specs.LocalState.{IsLocalState}
 use Rattle.fab_machine.specs.Relation.{AreRelated}
 use Rattle.fab_machine.proofs.Members.{IsMember}
 use Rattle.fab_machine.proofs.Windows.{of_open}
@@ -37,6 +38,27 @@ asked_of {X} ask n size slot x h = go (slot_at (empty_window n size) slot) refl 
     go None e q = cc
     go (Some t) e q = ap ask (sym (empty_at n size slot t e)) ∙ q
 
+pub starts_state : (r : Roster) (me : ReplicaId) → IsMember r me → IsLocalState r me (fresh_local r me)
+starts_state r me is =
+    let n = size_of r me.cluster in
+    record {
+      view_fits = omega arith;
+      wants = λ asked h. cc;
+      next_from = omega arith;
+      opened = record {
+        window = window_new n r.window (replicate r.window (empty_slot n)) refl is.some is.few is.wide;
+        members = refl;
+        width = length-replicate r.window (empty_slot n);
+        places = length-replicate r.window None ∙ sym (length-replicate r.window (empty_slot n));
+      };
+      held = record {
+        proposals = λ slot p h. absurd (let none = asked_of (λ t. t.proposal) n r.window slot p h in cc);
+        prepares = λ slot sender c h. absurd (no_vote n sender c (asked_of (λ t. value_of t.prepares sender) n r.window slot c h));
+        commits = λ slot sender c h. absurd (no_vote n sender c (asked_of (λ t. value_of t.commits sender) n r.window slot c h));
+      };
+      waiting = record { fit = λ x h. absurd h; homes = λ x h. absurd h; order = tt };
+    }
+
 pub starts : (r : Roster) (me : ReplicaId) → IsMember r me → AreRelated r me (fresh r me) []
 starts r me is =
     let n = size_of r me.cluster in
@@ -44,23 +66,15 @@ starts r me is =
       waits = λ k h. absurd h;
       rules = tt;
       local = record {
-        view_fits = omega arith;
-        wants = λ asked h. cc;
-        next_from = omega arith;
-        opened = record {
-          window = window_new n r.window (replicate r.window (empty_slot n)) refl is.some is.few is.wide;
-          members = refl;
-          width = length-replicate r.window (empty_slot n);
-          places = length-replicate r.window None ∙ sym (length-replicate r.window (empty_slot n));
-        };
+        is = starts_state r me is;
         shaped = λ m h. absurd h;
-        held = record {
+        heard = record {
           proposals = λ slot p h. absurd (let none = asked_of (λ t. t.proposal) n r.window slot p h in cc);
           prepares = λ slot sender c h. absurd (no_vote n sender c (asked_of (λ t. value_of t.prepares sender) n r.window slot c h));
           commits = λ slot sender c h. absurd (no_vote n sender c (asked_of (λ t. value_of t.commits sender) n r.window slot c h));
+          requests = λ x h. absurd h;
+          messages = λ m h. absurd h;
         };
-        waiting = record { heard = λ x h. absurd h; homes = λ x h. absurd h; order = tt };
-        kept = λ m h. absurd h;
         reported = none_reported r me 0 (fresh_local r me).slots r.window [];
         quoted = λ m h. absurd h;
         noted = λ m h. absurd h;

@@ -1,33 +1,31 @@
 -- Each event keeps the relation, so a list of events has an honest diary; and an event that makes no entry changes nothing.
-use Rattle.std.proofs.Common.{◌≡◌, ℕ, ◌%◌, Bool, true, false, not, cond, nat_lt, ◌||◌, List, [], ◌∷◌, length, take, Option, Some, None, Result, Ok, Err, inl, inr, refl, ap, ◌∙◌}
+use Rattle.std.proofs.Common.{◌≡◌, ℕ, Bool, true, false, List, [], ◌∷◌, length, Option, Some, None, Result, Ok, Err, inl, inr, refl, ap, ◌∙◌}
 use Rattle.std.specs.Prelude.{drop}
 use Rattle.std.specs.Bool.{IsTrue}
 use Rattle.std.proofs.Math.Seq.{drop-length}
-use Rattle.fab_base.specs.declared.limits.TheConstants.{GREATEST_NUMBER}
 use Rattle.fab_base.specs.Limits.{Roster, IsWithinLimits}
-use Rattle.fab_base.specs.Roster.{is_replica, size_of}
+use Rattle.fab_base.specs.Roster.{is_replica}
 use Rattle.fab_base.specs.declared.ids.ReplicaId.{ReplicaId}
 use Rattle.fab_base.specs.declared.messages.Vote.{Vote}
 use Rattle.fab_base.specs.declared.messages.PrePrepare.{PrePrepare}
 use Rattle.fab_base.specs.declared.messages.Message.{Message}
-use Rattle.fab_base.specs.declared.answers.Answer.{Answer}
 use Rattle.fab_base.specs.declared.answers.Item.{Item}
 use Rattle.fab_base.specs.declared.answers.Take.{Take}
 use Rattle.fab_rules.specs.declared.blocks.Block.{Block}
 use Rattle.fab_rules.specs.Lists.{In}
 use Rattle.fab_rules.specs.Digests.{batch_digest}
-use Rattle.fab_rules.specs.Shape.{is_primary}
 use Rattle.fab_rules.specs.Diary.{Entry, Heard}
 use Rattle.fab_rules.specs.Rules.{KeepsRules, IsHonest}
-use Rattle.pbft_slots.specs.Window.{high, pre_prepare_answer, prepare_answer, commit_answer}
+use Rattle.pbft_slots.specs.Window.{pre_prepare_answer, prepare_answer, commit_answer}
 use Rattle.fab_machine.specs.State.{Local, Replica, fresh}
-use Rattle.fab_machine.specs.Voting.{unmoved, vote_refusal, proposal_told, prepare_told, commit_told, proposal_by, prepare_by, commit_by}
-use Rattle.fab_machine.specs.Proposing.{eligible, proposed, is_due, propose_in, propose}
+use Rattle.fab_machine.specs.Voting.{vote_refusal, proposal_told, prepare_told, commit_told, proposal_by, prepare_by, commit_by}
+use Rattle.fab_machine.specs.Proposing.{propose}
 use Rattle.fab_machine.specs.Rounds.{knows_others, next_round}
 use Rattle.fab_machine.specs.Step.{Event, after_told, hear, propose_step, emit_step, execute_step, step, makes_entry, moves}
 use Rattle.fab_machine.specs.Diaries.{MayCome, diary_sent, diary_did, diary_after, state_from, diary_from, diary_of}
 use Rattle.fab_machine.specs.Relation.{AreLocal, full_of, AreRelated, IsTold}
 use Rattle.fab_machine.proofs.Members.{is_member}
+use Rattle.fab_machine.proofs.States.{propose_cases}
 use Rattle.fab_machine.proofs.Hearing.{hear_keeps}
 use Rattle.fab_machine.proofs.Proposing.{propose_keeps}
 use Rattle.fab_machine.proofs.Stepping.{told_keeps, hear_step, emit_keeps, honest}
@@ -109,24 +107,9 @@ apart false p q = cc
 
 idle_propose : (r : Roster) (me : ReplicaId) (s : Replica) (nudged : Bool) → makes_entry (propose_step r me s nudged).answer ≡ false
     → (propose_step r me s nudged).state ≡ s
-idle_propose r me s nudged h = by s.local.changing h
-  where
-    open_for : (a b c : Bool) (p : ℕ) → (let t = cond (not a) (unmoved s.local (Answer.NotPrimary p)) (cond b (unmoved s.local (Answer.WindowFull s.local.slots.low))
-        (cond c (proposed r me s.local (take r.batch (eligible s.local))) (unmoved s.local (Answer.Waiting (length (eligible s.local)))))) in
-        makes_entry (after_told s t).answer ≡ false → (after_told s t).state ≡ s)
-    open_for false b c p q = refl
-    open_for true true c p q = refl
-    open_for true false true p q = cc
-    open_for true false false p q = refl
-
-    others : Bool
-    others = knows_others me.cluster s.rounds.certificates s.local.next
-
-    by : (o : Option ℕ) → makes_entry (after_told s (propose_in r me s.local nudged others o)).answer ≡ false
-        → (after_told s (propose_in r me s.local nudged others o)).state ≡ s
-    by (Some asked) q = refl
-    by None q = open_for (is_primary r me.cluster s.local.view me.index) (nat_lt (high s.local.slots) s.local.next || nat_lt GREATEST_NUMBER s.local.next)
-        (is_due r s.local nudged others) (s.local.view % size_of r me.cluster) q
+idle_propose r me s nudged h =
+    propose_cases (λ t. makes_entry (after_told s t).answer ≡ false → (after_told s t).state ≡ s) r me s.local nudged
+    (knows_others me.cluster s.rounds.certificates s.local.next) (λ a q. refl) (λ q. cc) h
 
 idle_emit : (me : ReplicaId) (s : Replica) (sig : List ℕ) (o : List Item) → makes_entry (emit_step me s sig o).answer ≡ false → (emit_step me s sig o).state ≡ s
 idle_emit me s sig [] h = refl

@@ -19,14 +19,15 @@ use Rattle.fab_rules.specs.Growth.{after_saying}
 use Rattle.pbft_slots.specs.Window.{Window, prepared_at, committed_at}
 use Rattle.fab_machine.specs.State.{Local, wanted, wanted_by}
 use Rattle.fab_machine.specs.Items.{vote_of, to_cluster, same_id, is_own, statements_by}
-use Rattle.fab_machine.specs.Voting.{Told, unmoved, commit_certificate, newly, keep_prepared, commit_outs, certified_outs, newly_prepared, newly_committed, after_count, outs_after}
+use Rattle.fab_machine.specs.Voting.{Told, unmoved, commit_certificate, keep_prepared, commit_outs, certified_outs, newly_prepared, newly_committed, after_count, outs_after}
 use Rattle.fab_machine.specs.Relation.{IsPast, IsOfView, AreLocal, IsBacked, IsTold}
 use Rattle.fab_machine.specs.declared.outs.Out.{Out}
 use Rattle.fab_machine.proofs.Members.{IsMember}
-use Rattle.fab_machine.proofs.MoreHeard.{hears_later, held_more}
+use Rattle.fab_machine.proofs.MoreHeard.{hears_later, heard_more}
 use Rattle.fab_machine.proofs.Quorums.{prepared_slot, open_slot}
 use Rattle.fab_machine.proofs.Putting.{commit_may, commit_noted}
-use Rattle.fab_machine.proofs.Certifying.{certificate_backed}
+use Rattle.fab_machine.proofs.Certificates.{certificate_backed}
+use Rattle.fab_machine.proofs.States.{is_newly}
 
 -- ---- what came of an event in local ordering
 
@@ -98,14 +99,6 @@ told_certified r me at l full slot (Some d) rules are backed = record {
 
 -- ---- the slots are counted anew
 
-record IsNewly (before now : Option Hash32) (d : Hash32) : Type 0 where
-  before_is : before ≡ None
-  now_is : now ≡ Some d
-
-is_newly : (before now : Option Hash32) (d : Hash32) → newly before now ≡ Some d → IsNewly before now d
-is_newly None now d h = record { before_is = refl; now_is = h }
-is_newly (Some b) now d h = cc
-
 -- a Commit of a slot that wasn't prepared before wasn't put in the view
 commit_is_new : (l : Local) (slot view s : ℕ) → l.slots.low < slot → prepared_at l.slots slot ≡ None
     → IsPast l view s (IsSome (prepared_at l.slots s)) → view ≡ l.view → s ≡ slot → ⊥
@@ -128,19 +121,19 @@ told_counted r me l now slot full is calm low_enough low_is before rules are = g
         → IsTold r me (keep_prepared at slot n) (commit_outs r me l.view slot n ++ certified_outs me at slot (newly_committed l now slot)) full
     go None e =
         told_certified r me at at full slot (newly_committed l now slot) rules are
-        (λ d h. certificate_backed r me at full slot d are.opened are.held (is_newly (committed_at l.slots slot) (committed_at now slot) d h).now_is)
+        (λ d h. certificate_backed r me at full slot d is are.is are.heard (is_newly (committed_at l.slots slot) (committed_at now slot) d h).now_is)
     go (Some d) e =
         let new = is_newly (prepared_at l.slots slot) (prepared_at now slot) d e in
-        let s = prepared_slot now slot d are.opened.window new.now_is in
+        let s = prepared_slot now slot d are.is.opened.window new.now_is in
         let o = open_slot now slot s.at s.at_is in
         let m = Message.Commit (vote_of me l.view slot d) in
         let fresh = λ (v : Vote) (h : In (Said (Message.Commit v)) full). commit_is_new l slot v.view v.slot (omega (arith, o.1.above, low_is)) new.before_is (before v h) in
         let may = commit_may r me at full slot d is are calm new.now_is low_enough fresh in
         let noted = commit_noted r me at full slot d are new.now_is in
         let more = Said m ∷ full in
-        let held = held_more r me l.view now full more (hears_later (Said m) full) are.held in
+        let heard = heard_more now l.waiting l.kept full more (hears_later (Said m) full) are.heard in
         let told = told_certified r me at (keep_prepared at slot (Some d)) more slot (newly_committed l now slot) (may, rules) noted
-        (λ c h. certificate_backed r me at more slot c are.opened held (is_newly (committed_at l.slots slot) (committed_at now slot) c h).now_is) in
+        (λ c h. certificate_backed r me at more slot c is are.is heard (is_newly (committed_at l.slots slot) (committed_at now slot) c h).now_is) in
         told_put r me (keep_prepared at slot (Some d)) m (certified_outs me at slot (newly_committed l now slot)) full (own me) (calm_view l calm) told
 
 pub counted_still : (l : Local) (now : Window Vote) (slot : ℕ) → IsStill l (after_count l now slot)

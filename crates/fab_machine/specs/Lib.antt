@@ -7,4 +7,5 @@ pub mod Serving
 pub mod Rounds
 pub mod Step
 pub mod Diaries
+pub mod LocalState
 pub mod Relation

@@ -4,7 +4,6 @@
 -- The facts speak of the full diary: the one in which all that waits in the outbox is said too. A put adds one statement to it, and
 -- sending leaves it as it is. A record takes the parts of the state that it speaks of, so that a change of other parts leaves it true.
 use Rattle.std.specs.Prelude.{◌≡◌, ℕ, ◌*◌, ◌<◌, ◌≤◌, ◌⊎◌, List, [], ◌∷◌, length, Option, Some, None, Result, Ok, Err, IsSome, IsTrue, map, slice_get, slice_index}
-use Rattle.fab_base.specs.declared.limits.TheConstants.{GREATEST_NUMBER}
 use Rattle.fab_base.specs.Limits.{Roster}
 use Rattle.fab_base.specs.Quorums.{quorum_size}
 use Rattle.fab_base.specs.Roster.{size_of, home_of}
@@ -31,53 +30,26 @@ use Rattle.fab_rules.specs.Diary.{Entry, Heard, Said, ledger, StatementHeard, Co
 use Rattle.fab_rules.specs.Rules.{KeepsRules}
 use Rattle.fab_rules.specs.Growth.{after_saying}
 use Rattle.pbft_slots.specs.Ballots.{Counted}
-use Rattle.pbft_slots.specs.Window.{Window, IsWindow, place_in, proposal_at, prepare_at, commit_at, prepared_at}
+use Rattle.pbft_slots.specs.Window.{Window, place_in, proposal_at, prepare_at, commit_at, prepared_at}
 use Rattle.pbft_slots.specs.declared.slot.Proposal.{Proposal}
 use Rattle.fab_machine.specs.State.{Local, Rounds, Replica, wanted}
-use Rattle.fab_machine.specs.Items.{member_of, statements_by, statements_in}
-use Rattle.fab_machine.specs.Requests.{InOrder}
+use Rattle.fab_machine.specs.Items.{statements_by, statements_in}
+use Rattle.fab_machine.specs.LocalState.{IsLocalState}
 use Rattle.fab_machine.specs.Rounds.{round_of}
 use Rattle.fab_machine.specs.declared.outs.Out.{Out}
 
--- ---- the open slots
-
-pub record AreOpen (r : Roster) (me : ReplicaId) (slots : Window Vote) (prepared : List (Option PreparedCert)) : Type 0 where
-  pub window : IsWindow slots
-  pub members : slots.members ≡ size_of r me.cluster
-  pub width : length slots.slots ≡ r.window
-  pub places : length prepared ≡ length slots.slots
-
--- ---- what is held was heard
-
--- a kept vote: under its own signer, view, slot and digest
-pub record IsKeptVote (kind : Vote → Message) (me : ReplicaId) (full : List Entry) (view slot sender : ℕ) (c : Counted Vote) : Type 0 where
-  pub heard : In (Heard (kind c.kept)) full
-  pub signer : c.kept.signer ≡ member_of me sender
-  pub votes_for : IsVoteFor view slot c.digest c.kept
+-- ---- what is held and what waits was heard
 
 -- the null batch, or one that stands in a heard message
 abbrev pub IsBatchKnown : List Entry → List Request → Type 0
 IsBatchKnown full batch = (batch ≡ []) ⊎ BatchHeard full batch
 
--- a held batch, under its digest; its clients have their home here
-pub record IsHeldBatch (r : Roster) (me : ReplicaId) (full : List Entry) (p : Proposal) : Type 0 where
-  pub digest_is : p.digest ≡ batch_digest p.batch
-  pub known : IsBatchKnown full p.batch
-  pub homes : IsTrue (is_batch_of r me.cluster p.batch)
-
-pub record AreHeld (r : Roster) (me : ReplicaId) (view : ℕ) (slots : Window Vote) (full : List Entry) : Type 0 where
-  pub proposals : (slot : ℕ) (p : Proposal) → proposal_at slots slot ≡ Some p → IsHeldBatch r me full p
-  pub prepares : (slot sender : ℕ) (c : Counted Vote) → prepare_at slots slot sender ≡ Some c
-      → IsKeptVote Message.Prepare me full view slot sender c
-  pub commits : (slot sender : ℕ) (c : Counted Vote) → commit_at slots slot sender ≡ Some c
-      → IsKeptVote Message.Commit me full view slot sender c
-
--- ---- what waits was heard
-
-pub record AreWaiting (r : Roster) (me : ReplicaId) (waiting : List Request) (full : List Entry) : Type 0 where
-  pub heard : (x : Request) → In x waiting → In (Heard (Message.Request x)) full
-  pub homes : (x : Request) → In x waiting → home_of r x.client ≡ me.cluster
-  pub order : InOrder waiting
+pub record AreHeard (slots : Window Vote) (waiting : List Request) (kept : List Message) (full : List Entry) : Type 0 where
+  pub proposals : (slot : ℕ) (p : Proposal) → proposal_at slots slot ≡ Some p → IsBatchKnown full p.batch
+  pub prepares : (slot sender : ℕ) (c : Counted Vote) → prepare_at slots slot sender ≡ Some c → In (Heard (Message.Prepare c.kept)) full
+  pub commits : (slot sender : ℕ) (c : Counted Vote) → commit_at slots slot sender ≡ Some c → In (Heard (Message.Commit c.kept)) full
+  pub requests : (x : Request) → In x waiting → In (Heard (Message.Request x)) full
+  pub messages : (m : Message) → In m kept → In (Heard m) full
 
 -- ---- what was put is noted
 
@@ -143,14 +115,9 @@ pub record IsEntered (cluster view : ℕ) (slots : Window Vote) (full : List Ent
 -- ---- local ordering and the diary
 
 pub record AreLocal (r : Roster) (me : ReplicaId) (l : Local) (full : List Entry) : Type 0 where
-  pub view_fits : l.view ≤ GREATEST_NUMBER
-  pub wants : (asked : ℕ) → l.changing ≡ Some asked → l.view < asked
-  pub next_from : 1 ≤ l.next
-  pub opened : AreOpen r me l.slots l.prepared
+  pub is : IsLocalState r me l
   pub shaped : (m : Message) → In (Heard m) full → IsShaped r m
-  pub held : AreHeld r me l.view l.slots full
-  pub waiting : AreWaiting r me l.waiting full
-  pub kept : (m : Message) → In m l.kept → In (Heard m) full
+  pub heard : AreHeard l.slots l.waiting l.kept full
   pub reported : AreReported r me l.view l.slots l.prepared full
   pub quoted : (m : Message) → In (Said m) full → IsQuoting full m
   pub noted : (m : Message) → In (Said m) full → IsNoted l m

@@ -1,18 +1,27 @@
 //! The laws of the machine: what each event keeps.
-ghost use Rattle.std.specs.Prelude.{◌≡◌, ℕ, Bool, true, false, List, [], take, IsTrue};
+ghost use Rattle.std.specs.Prelude.{◌≡◌, ℕ, ◌+◌, ◌<◌, ◌≤◌, Bool, true, false, List, [], length, take, Option, Some, None, IsSome, IsTrue, Ok, Err, slice_get};
 ghost use Rattle.fab_base.specs.Limits.{Roster, IsWithinLimits};
 ghost use Rattle.fab_base.specs.Roster.{is_replica};
 ghost use Rattle.fab_base.specs.declared.ids.ReplicaId.{ReplicaId};
+ghost use Rattle.fab_base.specs.declared.requests.Request.{Request};
+ghost use Rattle.fab_base.specs.declared.requests.Outcome.{Outcome};
+ghost use Rattle.fab_base.specs.declared.messages.CommitCert.{CommitCert};
 ghost use Rattle.fab_base.specs.declared.messages.Message.{Message};
+ghost use Rattle.fab_rules.specs.declared.blocks.Block.{Block};
 ghost use Rattle.fab_rules.specs.Lists.{In};
+ghost use Rattle.fab_rules.specs.Shape.{IsShaped};
 ghost use Rattle.fab_rules.specs.Diary.{Entry, Heard};
 ghost use Rattle.fab_rules.specs.Rules.{KeepsRules, IsHonest};
-ghost use Rattle.fab_machine.specs.State.{Local, Replica, fresh};
+ghost use Rattle.fab_machine.specs.State.{Local, Rounds, Replica, fresh_local, fresh};
 ghost use Rattle.fab_machine.specs.Requests.{InOrder};
 ghost use Rattle.fab_machine.specs.Proposing.{eligible, propose};
+ghost use Rattle.fab_machine.specs.Serving.{served};
+ghost use Rattle.fab_machine.specs.Rounds.{round_of, IsCertificate, certificate_for, keep, block_of, next_round};
 ghost use Rattle.fab_machine.specs.Step.{Event, hear, step, moves};
 ghost use Rattle.fab_machine.specs.Diaries.{MayCome, diary_after, diary_of};
+ghost use Rattle.fab_machine.specs.LocalState.{IsLocalState};
 ghost use Rattle.fab_machine.specs.Relation.{AreLocal, AreRelated, IsTold};
+ghost use Rattle.fab_machine.specs.declared.outs.Out.{Out};
 
 /// The law of the machine, of a replica of members within the limits of a fabric. A fresh replica is related to the empty diary
 /// (`starts`); each event that may come keeps the relation, where the diary grows by what was heard, said or done (`keeps`); and a
@@ -42,4 +51,40 @@ pub fn local_law()
     ensures proposes { (r : Roster) (me : ReplicaId) (l : Local) (nudged known : Bool) (full : List Entry) → IsWithinLimits r → IsTrue (is_replica r me)
         → KeepsRules r me full → AreLocal r me l full → IsTold r me (propose r me l nudged known).local (propose r me l nudged known).outs full }
     ensures in_order { (l : Local) (n : ℕ) → InOrder l.waiting → InOrder (take n (eligible l)) }
+{}
+
+/// What a state of local ordering keeps by itself, whatever it heard before: it holds at the start (`starts`), and after a shaped
+/// message (`hears`), a proposal (`proposes`) and an executed round (`serves`). Each commit certificate that is formed is one that may
+/// be kept (`certifies`); a proposal forms none (`proposes_none`).
+pub fn state_law()
+    ensures starts { (r : Roster) (me : ReplicaId) → IsWithinLimits r → IsTrue (is_replica r me) → IsLocalState r me (fresh_local r me) }
+    ensures hears { (r : Roster) (me : ReplicaId) (l : Local) (m : Message) → IsWithinLimits r → IsTrue (is_replica r me) → IsShaped r m
+        → IsLocalState r me l → IsLocalState r me (hear r me l m).local }
+    ensures certifies { (r : Roster) (me : ReplicaId) (l : Local) (m : Message) (k : CommitCert) → IsWithinLimits r → IsTrue (is_replica r me) → IsShaped r m
+        → IsLocalState r me l → In (Out.Certified k) (hear r me l m).outs → IsCertificate (length r.sizes) k }
+    ensures proposes { (r : Roster) (me : ReplicaId) (l : Local) (nudged known : Bool) → IsLocalState r me l
+        → IsLocalState r me (propose r me l nudged known).local }
+    ensures proposes_none { (r : Roster) (me : ReplicaId) (l : Local) (nudged known : Bool) (k : CommitCert)
+        → In (Out.Certified k) (propose r me l nudged known).outs → ⊥ }
+    ensures serves { (r : Roster) (me : ReplicaId) (l : Local) (round : ℕ) (batch : List Request) (outcomes : List Outcome) → IsLocalState r me l
+        → IsLocalState r me (served l round batch outcomes) }
+{}
+
+/// What the words on rounds come to. The first certificate of a round and cluster stays, whatever comes after it (`first_stays`); one of
+/// a round that wasn't executed, of which none is kept, is kept (`is_kept`). The next round has a block of each cluster, in their order,
+/// each that of the kept certificate (`is_whole`), and is there wherever all certificates are (`is_there`); otherwise the cluster that is
+/// named is the first without one (`is_missing`).
+pub fn rounds_law()
+    ensures first_stays { (t : Rounds) (k first : CommitCert) (round cluster : ℕ) → certificate_for t.certificates round cluster ≡ Some first
+        → certificate_for (keep t k).certificates round cluster ≡ Some first }
+    ensures is_kept { (t : Rounds) (k : CommitCert) → t.executed < round_of k → certificate_for t.certificates (round_of k) k.cluster ≡ None
+        → certificate_for (keep t k).certificates (round_of k) k.cluster ≡ Some k }
+    ensures is_whole { (clusters : ℕ) (t : Rounds) (blocks : List Block) → next_round clusters t ≡ Ok blocks → (length blocks ≡ clusters)
+        × ((i : ℕ) → i < clusters → (k : CommitCert) × (certificate_for t.certificates (t.executed + 1) (1 + i) ≡ Some k)
+        × (slice_get blocks i ≡ Some (block_of (t.executed + 1) k))) }
+    ensures is_there { (clusters : ℕ) (t : Rounds) → ((cluster : ℕ) → 1 ≤ cluster → cluster ≤ clusters
+        → IsSome (certificate_for t.certificates (t.executed + 1) cluster)) → (blocks : List Block) × (next_round clusters t ≡ Ok blocks) }
+    ensures is_missing { (clusters : ℕ) (t : Rounds) (missing : ℕ) → next_round clusters t ≡ Err missing → (1 ≤ missing) × (missing ≤ clusters)
+        × (certificate_for t.certificates (t.executed + 1) missing ≡ None)
+        × ((cluster : ℕ) → 1 ≤ cluster → cluster < missing → IsSome (certificate_for t.certificates (t.executed + 1) cluster)) }
 {}

@@ -1,0 +1,349 @@
+-- What a state of local ordering keeps by itself, it keeps through every call; and each certificate that is formed is one.
+use Rattle.std.proofs.Common.{◌≡◌, ℕ, ◌+◌, ◌%◌, ◌<◌, ◌≤◌, Bool, true, false, not, cond, nat_le, nat_lt, nat_eq, ◌||◌, List, [], ◌∷◌, ◌++◌, length, take, Option, Some, None, Result, Ok, Err, inl, inr, refl, sym, ap, subst, ◌∙◌, arith}
+use Rattle.std.proofs.lemmas.Bool.Decides.{nat_tests}
+use Rattle.std.proofs.lemmas.List.{length-set}
+use Rattle.fab_base.specs.declared.limits.TheConstants.{GREATEST_NUMBER}
+use Rattle.fab_base.specs.Limits.{Roster}
+use Rattle.fab_base.specs.Roster.{size_of}
+use Rattle.fab_base.specs.declared.ids.ReplicaId.{ReplicaId}
+use Rattle.fab_base.specs.declared.ids.Hash32.{Hash32}
+use Rattle.fab_base.specs.declared.requests.Request.{Request}
+use Rattle.fab_base.specs.declared.requests.Outcome.{Outcome}
+use Rattle.fab_base.specs.declared.messages.Vote.{Vote}
+use Rattle.fab_base.specs.declared.messages.PrePrepare.{PrePrepare}
+use Rattle.fab_base.specs.declared.messages.PreparedCert.{PreparedCert}
+use Rattle.fab_base.specs.declared.messages.CommitCert.{CommitCert}
+use Rattle.fab_base.specs.declared.messages.Message.{Message}
+use Rattle.fab_base.specs.declared.answers.Answer.{Answer}
+use Rattle.fab_base.specs.declared.answers.Item.{Item}
+use Rattle.fab_base.specs.declared.answers.Take.{Take}
+use Rattle.fab_base.proofs.Tests.{same}
+use Rattle.fab_rules.specs.Lists.{In}
+use Rattle.fab_rules.specs.Digests.{batch_digest}
+use Rattle.fab_rules.specs.Shape.{is_batch_of, is_primary, IsShaped}
+use Rattle.pbft_slots.specs.declared.slot.Proposal.{Proposal}
+use Rattle.pbft_slots.specs.Ballots.{Counted}
+use Rattle.pbft_slots.specs.Window.{Window, high, refusal_by, place_in, pre_prepare_answer, prepare_answer, commit_answer, after_pre_prepare, after_prepare, after_commit, committed_at}
+use Rattle.fab_machine.specs.State.{Proposed, Local, wanted, wanted_by}
+use Rattle.fab_machine.specs.Voting.{Told, unmoved, with_certificate, prepared_certificate, newly, keep_prepared, commit_outs, certified_outs, newly_prepared, newly_committed, after_count, outs_after, vote_refusal, kept_by, refused, proposal_told, prepare_told, commit_told, proposal_by, prepare_by, commit_by}
+use Rattle.fab_machine.specs.Requests.{request_answer, waiting_by}
+use Rattle.fab_machine.specs.Proposing.{eligible, proposed, is_due, propose_in, propose}
+use Rattle.fab_machine.specs.Serving.{stamps_after, still_waiting, still_proposed, served}
+use Rattle.fab_machine.specs.Rounds.{IsCertificate}
+use Rattle.fab_machine.specs.Step.{hear}
+use Rattle.fab_machine.specs.LocalState.{IsHeldBatch, IsKeptVote, AreHeld, AreWaiting, IsLocalState}
+use Rattle.fab_machine.specs.declared.outs.Out.{Out}
+use Rattle.fab_machine.proofs.Members.{IsMember}
+use Rattle.fab_machine.proofs.Shaped.{proposal_homes, shaped_proposal_fits, shaped_request_fits}
+use Rattle.fab_machine.proofs.Windows.{IsLater, later_by_proposal, later_by_prepare, later_by_commit, IsThisVote, prepare_heard, commit_heard, proposal_heard, proposal_after_prepare, proposal_after_commit, commit_after_prepare, prepare_after_commit, prepare_after_proposal, commit_after_proposal}
+use Rattle.fab_machine.proofs.Waiting.{waiting_filtered, waiting_answered}
+use Rattle.fab_machine.proofs.Certificates.{certificate_may}
+
+-- ---- a change beside the view, its slots and its certificates
+
+pub state_beside : (r : Roster) (me : ReplicaId) (l : Local) (next : ℕ) (proposed : List Proposed) (waiting : List Request) (last : List ℕ) (executed : ℕ)
+    (kept : List Message) → l.next ≤ next → AreWaiting r me waiting → IsLocalState r me l
+    → IsLocalState r me (record l { next = next; proposed = proposed; waiting = waiting; last = last; executed = executed; kept = kept })
+state_beside r me l next proposed waiting last executed kept later wait is = record {
+  view_fits = is.view_fits;
+  wants = is.wants;
+  next_from = omega (arith, is.next_from, later);
+  opened = is.opened;
+  held = is.held;
+  waiting = wait;
+}
+
+-- ---- more was heard of the slots
+
+pub state_later : (r : Roster) (me : ReplicaId) (l : Local) (now : Window Vote) → IsLater l.slots now → AreHeld r me l.view now → IsLocalState r me l
+    → IsLocalState r me (record l { slots = now })
+state_later r me l now later held is = record {
+  view_fits = is.view_fits;
+  wants = is.wants;
+  next_from = is.next_from;
+  opened = record {
+    window = later.whole;
+    members = later.members_is ∙ is.opened.members;
+    width = later.width_is ∙ is.opened.width;
+    places = is.opened.places ∙ sym later.width_is;
+  };
+  held = held;
+  waiting = is.waiting;
+}
+
+-- ---- a prepared certificate is kept
+
+length-with_certificate : (certificates : List (Option PreparedCert)) (place : Result ℕ Take) (k : PreparedCert)
+    → length (with_certificate certificates place k) ≡ length certificates
+length-with_certificate certificates (Err refused) k = refl
+length-with_certificate certificates (Ok p) k = length-set certificates p (Some k)
+
+pub state_kept : (r : Roster) (me : ReplicaId) (l : Local) (slot : ℕ) (k : PreparedCert) → IsLocalState r me l
+    → IsLocalState r me (record l { prepared = with_certificate l.prepared (place_in l.slots slot) k })
+state_kept r me l slot k is = record {
+  view_fits = is.view_fits;
+  wants = is.wants;
+  next_from = is.next_from;
+  opened = record {
+    window = is.opened.window;
+    members = is.opened.members;
+    width = is.opened.width;
+    places = length-with_certificate l.prepared (place_in l.slots slot) k ∙ is.opened.places;
+  };
+  held = is.held;
+  waiting = is.waiting;
+}
+
+-- ---- which messages are for the open slots of the view
+
+pub record IsForView (me : ReplicaId) (l : Local) (cluster view slot : ℕ) : Type 0 where
+  pub cluster_is : cluster ≡ me.cluster
+  pub above : l.slots.low < slot
+  pub view_is : view ≡ l.view
+  pub calm : l.changing ≡ None
+
+more_than : (a b : ℕ) → nat_le a b ≡ false → b < a
+more_than a b h = grind (arith, nat_tests)
+
+at_least : (a b : ℕ) → nat_lt a b ≡ false → b ≤ a
+at_least a b h = grind (arith, nat_tests)
+
+pub for_view : (me : ReplicaId) (l : Local) (cluster view slot : ℕ) → ((asked : ℕ) → l.changing ≡ Some asked → l.view < asked)
+    → vote_refusal me l cluster view slot ≡ None → IsForView me l cluster view slot
+for_view me l cluster view slot wants h =
+    go (nat_eq cluster me.cluster) (nat_le slot l.slots.low) (nat_lt view (wanted l)) (nat_lt l.view view) refl refl refl refl h
+  where
+    calm : (c : Option ℕ) → l.changing ≡ c → wanted_by c l.view ≤ view → view ≤ l.view → (view ≡ l.view) × (c ≡ None)
+    calm None e a b = (omega (arith, a, b), refl)
+    calm (Some asked) e a b = absurd (omega (arith, wants asked e, a, b))
+
+    go : (a b c d : Bool) → nat_eq cluster me.cluster ≡ a → nat_le slot l.slots.low ≡ b → nat_lt view (wanted l) ≡ c → nat_lt l.view view ≡ d
+        → cond (not a) (Some Take.Stray) (cond b (Some (Take.Old l.slots.low)) (cond c (Some (Take.OtherView (wanted l))) (cond d (Some (Take.Ahead l.view)) (refusal_by (place_in l.slots slot))))) ≡ None
+        → IsForView me l cluster view slot
+    go false b c d p q s t e = cc
+    go true true c d p q s t e = cc
+    go true false true d p q s t e = cc
+    go true false false true p q s t e = cc
+    go true false false false p q s t e =
+        let k = calm l.changing refl (at_least view (wanted l) s) (at_least l.view view t) in
+        record { cluster_is = same cluster me.cluster p; above = more_than slot l.slots.low q; view_is = k.0; calm = k.1 }
+
+-- ---- what the slots hold then
+
+-- the vote is kept under its own sender, view, slot and digest
+this_vote : (me : ReplicaId) (l : Local) (v : Vote) (s i : ℕ) (c : Counted Vote) → IsForView me l v.signer.cluster v.view v.slot
+    → IsThisVote v.signer.index v.slot s i (record { digest = v.digest; kept = v }) c → IsKeptVote me l.view s i c
+this_vote me l v s i c for it =
+    let first : IsKeptVote me l.view v.slot v.signer.index (record { digest = v.digest; kept = v }) = record {
+      signer = ap (λ k. let x : ReplicaId = record { cluster = k; index = v.signer.index } in x) for.cluster_is;
+      votes_for = record { view_is = for.view_is; slot_is = refl; digest_is = refl };
+    } in
+    subst (λ d. IsKeptVote me l.view s i d) (sym it.vote_is)
+    (subst (λ j. IsKeptVote me l.view s j (record { digest = v.digest; kept = v })) (sym it.sender_is)
+    (subst (λ t. IsKeptVote me l.view t v.signer.index (record { digest = v.digest; kept = v })) (sym it.slot_is) first))
+
+abbrev pub prepare_counted : Local → Vote → Window Vote
+prepare_counted l v = after_prepare l.slots v.signer.index v.slot (record { digest = v.digest; kept = v })
+
+abbrev pub commit_counted : Local → Vote → Window Vote
+commit_counted l v = after_commit l.slots v.signer.index v.slot (record { digest = v.digest; kept = v })
+
+abbrev pub proposal_counted : Local → PrePrepare → Window Vote
+proposal_counted l p = after_pre_prepare l.slots p.slot (record { digest = batch_digest p.batch; batch = p.batch })
+
+pub prepare_state : (r : Roster) (me : ReplicaId) (l : Local) (v : Vote) → IsLocalState r me l → IsForView me l v.signer.cluster v.view v.slot
+    → IsLocalState r me (record l { slots = prepare_counted l v })
+prepare_state r me l v is for =
+    let w = l.slots in
+    let i = v.signer.index in
+    let c : Counted Vote = record { digest = v.digest; kept = v } in
+    let held : AreHeld r me l.view (prepare_counted l v) = record {
+      proposals = λ s p h. is.held.proposals s p (proposal_after_prepare w i v.slot s c p h);
+      prepares = λ s j d h. (elim (prepare_heard w i v.slot s j c d h) [ inl old ↦ is.held.prepares s j d old | inr it ↦ this_vote me l v s j d for it ]);
+      commits = λ s j d h. is.held.commits s j d (commit_after_prepare w i v.slot s j c d h);
+    } in
+    state_later r me l (prepare_counted l v) (later_by_prepare w i v.slot c is.opened.window) held is
+
+pub commit_state : (r : Roster) (me : ReplicaId) (l : Local) (v : Vote) → IsLocalState r me l → IsForView me l v.signer.cluster v.view v.slot
+    → IsLocalState r me (record l { slots = commit_counted l v })
+commit_state r me l v is for =
+    let w = l.slots in
+    let i = v.signer.index in
+    let c : Counted Vote = record { digest = v.digest; kept = v } in
+    let held : AreHeld r me l.view (commit_counted l v) = record {
+      proposals = λ s p h. is.held.proposals s p (proposal_after_commit w i v.slot s c p h);
+      prepares = λ s j d h. is.held.prepares s j d (prepare_after_commit w i v.slot s j c d h);
+      commits = λ s j d h. (elim (commit_heard w i v.slot s j c d h) [ inl old ↦ is.held.commits s j d old | inr it ↦ this_vote me l v s j d for it ]);
+    } in
+    state_later r me l (commit_counted l v) (later_by_commit w i v.slot c is.opened.window) held is
+
+pub proposal_state : (r : Roster) (me : ReplicaId) (l : Local) (p : PrePrepare) → IsShaped r (Message.PrePrepare p) → IsLocalState r me l
+    → IsForView me l p.signer.cluster p.view p.slot → IsLocalState r me (record l { slots = proposal_counted l p })
+proposal_state r me l p fine is for =
+    let w = l.slots in
+    let g : Proposal = record { digest = batch_digest p.batch; batch = p.batch } in
+    let homes : is_batch_of r me.cluster p.batch ≡ true = subst (λ k. is_batch_of r k p.batch ≡ true) for.cluster_is (proposal_homes r p fine) in
+    let it_is : IsHeldBatch r me g = record { digest_is = refl; fits = shaped_proposal_fits r p fine; homes = homes } in
+    let held : AreHeld r me l.view (proposal_counted l p) = record {
+      proposals = λ s q h. (elim (proposal_heard w p.slot s g q h) [ inl old ↦ is.held.proposals s q old | inr it ↦ subst (IsHeldBatch r me) (sym it.1) it_is ]);
+      prepares = λ s i c h. is.held.prepares s i c (prepare_after_proposal w p.slot s i g c h);
+      commits = λ s i c h. is.held.commits s i c (commit_after_proposal w p.slot s i g c h);
+    } in
+    state_later r me l (proposal_counted l p) (later_by_proposal w p.slot g is.opened.window) held is
+
+-- ---- and what newly holds
+
+pub record IsNewly (before now : Option Hash32) (d : Hash32) : Type 0 where
+  pub before_is : before ≡ None
+  pub now_is : now ≡ Some d
+
+pub is_newly : (before now : Option Hash32) (d : Hash32) → newly before now ≡ Some d → IsNewly before now d
+is_newly None now d h = record { before_is = refl; now_is = h }
+is_newly (Some b) now d h = cc
+
+counted_state : (r : Roster) (me : ReplicaId) (l : Local) (now : Window Vote) (slot : ℕ) → IsLocalState r me (record l { slots = now })
+    → IsLocalState r me (after_count l now slot)
+counted_state r me l now slot is = go (newly_prepared l now slot)
+  where
+    go : (n : Option Hash32) → IsLocalState r me (keep_prepared (record l { slots = now }) slot n)
+    go None = is
+    go (Some d) = state_kept r me (record l { slots = now }) slot (prepared_certificate (record l { slots = now }) slot d) is
+
+-- ---- the certificates that are formed
+
+abbrev pub AreCertificates : ℕ → List Out → Type 0
+AreCertificates clusters outs = (k : CommitCert) → In (Out.Certified k) outs → IsCertificate clusters k
+
+put_is_not_certified : (item : Item) (k : CommitCert) → Out.Put item ≡ Out.Certified k → ⊥
+put_is_not_certified item k e = cc
+
+same_certified : (x y : CommitCert) → Out.Certified x ≡ Out.Certified y → x ≡ y
+same_certified x y e = cc
+
+put_certifies_nothing : (clusters : ℕ) (item : Item) (rest : List Out) → AreCertificates clusters rest → AreCertificates clusters (Out.Put item ∷ rest)
+put_certifies_nothing clusters item rest are k (inl e) = absurd (put_is_not_certified item k e)
+put_certifies_nothing clusters item rest are k (inr h) = are k h
+
+outs_certified : (r : Roster) (me : ReplicaId) (l : Local) (now : Window Vote) (slot : ℕ) → IsMember r me → IsLocalState r me (record l { slots = now })
+    → AreCertificates (length r.sizes) (outs_after r me l now slot)
+outs_certified r me l now slot member is k h =
+    go (newly_prepared l now slot) (newly_committed l now slot) refl h
+  where
+    formed : (n : Option Hash32) → newly_committed l now slot ≡ n → In (Out.Certified k) (certified_outs me (record l { slots = now }) slot n)
+        → IsCertificate (length r.sizes) k
+    formed None e q = absurd q
+    formed (Some d) e (inl same_out) =
+        subst (IsCertificate (length r.sizes)) (same_certified _ k same_out)
+        (certificate_may r me (record l { slots = now }) slot d member is (is_newly (committed_at l.slots slot) (committed_at now slot) d e).now_is)
+    formed (Some d) e (inr none) = absurd none
+
+    go : (m n : Option Hash32) → newly_committed l now slot ≡ n
+        → In (Out.Certified k) (commit_outs r me l.view slot m ++ certified_outs me (record l { slots = now }) slot n) → IsCertificate (length r.sizes) k
+    go None n e q = formed n e q
+    go (Some d) n e (inl put) = absurd (put_is_not_certified _ k put)
+    go (Some d) n e (inr q) = formed n e q
+
+-- ---- what came of a call
+
+pub record IsToldState (r : Roster) (me : ReplicaId) (t : Told) : Type 0 where
+  pub is : IsLocalState r me t.local
+  pub certified : AreCertificates (length r.sizes) t.outs
+
+unmoved_state : (r : Roster) (me : ReplicaId) (l : Local) (a : Answer) → IsLocalState r me l → IsToldState r me (unmoved l a)
+unmoved_state r me l a is = record { is = is; certified = λ k h. absurd h }
+
+refused_state : (r : Roster) (me : ReplicaId) (l : Local) (m : Message) (how : Take) → IsLocalState r me l → IsToldState r me (refused l m how)
+refused_state r me l m how is = record {
+  is = state_beside r me l l.next l.proposed l.waiting l.last l.executed (kept_by how l.kept m) (omega arith) is.waiting is;
+  certified = λ k h. absurd h;
+}
+
+hear_proposal_state : (r : Roster) (me : ReplicaId) (l : Local) (p : PrePrepare) → IsMember r me → IsShaped r (Message.PrePrepare p) → IsLocalState r me l
+    → (o : Option Take) → vote_refusal me l p.signer.cluster p.view p.slot ≡ o → IsToldState r me (proposal_by r me l p o)
+hear_proposal_state r me l p member fine is (Some how) e = refused_state r me l (Message.PrePrepare p) how is
+hear_proposal_state r me l p member fine is None e = go (pre_prepare_answer l.slots p.slot (batch_digest p.batch))
+  where
+    now : IsLocalState r me (record l { slots = proposal_counted l p })
+    now = proposal_state r me l p fine is (for_view me l p.signer.cluster p.view p.slot is.wants e)
+
+    go : (how : Take) → IsToldState r me (proposal_told r me l p how)
+    go Take.Taken = record {
+      is = counted_state r me l (proposal_counted l p) p.slot now;
+      certified = put_certifies_nothing (length r.sizes) _ _ (outs_certified r me l (proposal_counted l p) p.slot member now);
+    }
+    go how = unmoved_state r me l (Answer.Heard how) is
+
+hear_prepare_state : (r : Roster) (me : ReplicaId) (l : Local) (v : Vote) → IsMember r me → IsLocalState r me l
+    → (o : Option Take) → vote_refusal me l v.signer.cluster v.view v.slot ≡ o → IsToldState r me (prepare_by r me l v o)
+hear_prepare_state r me l v member is (Some how) e = refused_state r me l (Message.Prepare v) how is
+hear_prepare_state r me l v member is None e = go (prepare_answer l.slots v.signer.index v.slot v.digest)
+  where
+    now : IsLocalState r me (record l { slots = prepare_counted l v })
+    now = prepare_state r me l v is (for_view me l v.signer.cluster v.view v.slot is.wants e)
+
+    go : (how : Take) → IsToldState r me (prepare_told r me l v how)
+    go Take.Taken = record { is = counted_state r me l (prepare_counted l v) v.slot now; certified = outs_certified r me l (prepare_counted l v) v.slot member now }
+    go how = unmoved_state r me l (Answer.Heard how) is
+
+hear_commit_state : (r : Roster) (me : ReplicaId) (l : Local) (v : Vote) → IsMember r me → IsLocalState r me l
+    → (o : Option Take) → vote_refusal me l v.signer.cluster v.view v.slot ≡ o → IsToldState r me (commit_by r me l v o)
+hear_commit_state r me l v member is (Some how) e = refused_state r me l (Message.Commit v) how is
+hear_commit_state r me l v member is None e = go (commit_answer l.slots v.signer.index v.slot v.digest)
+  where
+    now : IsLocalState r me (record l { slots = commit_counted l v })
+    now = commit_state r me l v is (for_view me l v.signer.cluster v.view v.slot is.wants e)
+
+    go : (how : Take) → IsToldState r me (commit_told r me l v how)
+    go Take.Taken = record { is = counted_state r me l (commit_counted l v) v.slot now; certified = outs_certified r me l (commit_counted l v) v.slot member now }
+    go how = unmoved_state r me l (Answer.Heard how) is
+
+pub request_state : (r : Roster) (me : ReplicaId) (l : Local) (x : Request) → IsShaped r (Message.Request x) → IsLocalState r me l
+    → IsLocalState r me (record l { waiting = waiting_by (request_answer r me l x) l.waiting x })
+request_state r me l x fine is =
+    let now = waiting_by (request_answer r me l x) l.waiting x in
+    state_beside r me l l.next l.proposed now l.last l.executed l.kept (omega arith) (waiting_answered r me l x (shaped_request_fits r x fine) is.waiting) is
+
+pub hear_state : (r : Roster) (me : ReplicaId) (l : Local) (m : Message) → IsMember r me → IsShaped r m → IsLocalState r me l → IsToldState r me (hear r me l m)
+hear_state r me l (Message.Request x) member fine is = record { is = request_state r me l x fine is; certified = λ k h. absurd h }
+hear_state r me l (Message.PrePrepare p) member fine is = hear_proposal_state r me l p member fine is (vote_refusal me l p.signer.cluster p.view p.slot) refl
+hear_state r me l (Message.Prepare v) member fine is = hear_prepare_state r me l v member is (vote_refusal me l v.signer.cluster v.view v.slot) refl
+hear_state r me l (Message.Commit v) member fine is = hear_commit_state r me l v member is (vote_refusal me l v.signer.cluster v.view v.slot) refl
+hear_state r me l m member fine is = unmoved_state r me l (Answer.Heard Take.Stray) is
+
+-- ---- Batch and Nudge
+
+-- a property of all that a proposal may come to
+module _ (P : Told → Type 0) (r : Roster) (me : ReplicaId) (l : Local) (nudged known : Bool) where
+  pub propose_cases : ((a : Answer) → P (unmoved l a)) → P (proposed r me l (take r.batch (eligible l))) → P (propose r me l nudged known)
+  propose_cases still new = by l.changing
+    where
+      open_for : (a b c : Bool) → P (cond (not a) (unmoved l (Answer.NotPrimary (l.view % size_of r me.cluster))) (cond b (unmoved l (Answer.WindowFull l.slots.low))
+          (cond c (proposed r me l (take r.batch (eligible l))) (unmoved l (Answer.Waiting (length (eligible l)))))))
+      open_for false b c = still (Answer.NotPrimary (l.view % size_of r me.cluster))
+      open_for true true c = still (Answer.WindowFull l.slots.low)
+      open_for true false false = still (Answer.Waiting (length (eligible l)))
+      open_for true false true = new
+
+      by : (o : Option ℕ) → P (propose_in r me l nudged known o)
+      by (Some asked) = still (Answer.Changing asked)
+      by None = open_for (is_primary r me.cluster l.view me.index) (nat_lt (high l.slots) l.next || nat_lt GREATEST_NUMBER l.next) (is_due r l nudged known)
+
+pub propose_state : (r : Roster) (me : ReplicaId) (l : Local) (nudged known : Bool) → IsLocalState r me l → IsLocalState r me (propose r me l nudged known).local
+propose_state r me l nudged known is =
+    let ps = l.proposed ++ record { slot = l.next; batch = take r.batch (eligible l) } ∷ [] in
+    propose_cases (λ t. IsLocalState r me t.local) r me l nudged known (λ a. is)
+    (state_beside r me l (l.next + 1) ps l.waiting l.last l.executed l.kept (omega arith) is.waiting is)
+
+pub propose_forms_none : (r : Roster) (me : ReplicaId) (l : Local) (nudged known : Bool) (k : CommitCert) → In (Out.Certified k) (propose r me l nudged known).outs → ⊥
+propose_forms_none r me l nudged known k =
+    propose_cases (λ t. In (Out.Certified k) t.outs → ⊥) r me l nudged known (λ a h. h)
+    (λ h. elim h [ inl e ↦ put_is_not_certified _ k e | inr none ↦ none ])
+
+-- ---- an executed round
+
+pub served_state : (r : Roster) (me : ReplicaId) (l : Local) (round : ℕ) (batch : List Request) (outcomes : List Outcome) → IsLocalState r me l
+    → IsLocalState r me (served l round batch outcomes)
+served_state r me l round batch outcomes is =
+    let last = stamps_after l.last batch outcomes in
+    state_beside r me l l.next (still_proposed round l.proposed) (still_waiting last l.waiting) last round l.kept (omega arith)
+    (waiting_filtered r me l.waiting _ is.waiting) is
