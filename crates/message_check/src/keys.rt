@@ -6,7 +6,7 @@
 ghost use Rattle.std.specs.Prelude.{◌≡◌, ◌+◌, ◌≤◌, IfOk, OnOk, IsTrue, length, sum};
 ghost use Rattle.std.specs.List.{list_all};
 ghost use Rattle.bft_verify.specs.Ring.{is_fabric_key, is_low};
-ghost use Rattle.message_check.specs.Keys.{Gains};
+ghost use Rattle.fab_base.specs.declared.limits.TheConstants.{MOST_CLUSTERS};
 
 use fab_base::NoMemory;
 use lms_tree::{Height, OtsKind, OtsSeed, Public, make};
@@ -51,8 +51,10 @@ fn put_cluster(
     cluster: u8,
     size: u8,
 ) -> Result<(), NoMemory>
-    requires { IsTrue (is_low height) }
-    ensures { OnOk result (Gains size keys.old.items keys.new.items) }
+    requires low { IsTrue (is_low height) }
+    requires kinds { IsTrue (list_all is_fabric_key keys.old.items) }
+    ensures more { OnOk result (length keys.new.items ≡ length keys.old.items + size) }
+    ensures kinds { OnOk result (IsTrue (list_all is_fabric_key keys.new.items)) }
 {
     for index in 0..size {
         keys.push(public_key(alloc, seed, &[1, cluster, index], height)?)?;
@@ -68,8 +70,8 @@ pub(crate) fn replica_keys(
     sizes: &[u8],
 ) -> Result<Vec<Public>, NoMemory>
     requires low { IsTrue (is_low height) }
-    requires clusters { length sizes.now ≤ 6 }
-    ensures { IfOk result (λ keys. Gains (sum sizes.now) [] keys.items) }
+    requires clusters { length sizes.now ≤ MOST_CLUSTERS }
+    ensures { IfOk result (λ keys. (length keys.items ≡ sum sizes.now) × IsTrue (list_all is_fabric_key keys.items)) }
 {
     let mut keys = Vec::new(alloc);
     let mut cluster = 0;
@@ -82,7 +84,7 @@ pub(crate) fn replica_keys(
 
 /// The keys of so many clients, by number.
 pub(crate) fn client_keys(alloc: Global, seed: u64, count: u8) -> Result<Vec<Public>, NoMemory>
-    ensures { IfOk result (λ keys. Gains count [] keys.items) }
+    ensures { IfOk result (λ keys. (length keys.items ≡ count) × IsTrue (list_all is_fabric_key keys.items)) }
 {
     let mut keys = Vec::new(alloc);
     for number in 0..count {
