@@ -1,6 +1,6 @@
 //! Why a line gets no answer of its own.
 use hex::FromHexError;
-use std::alloc::AllocError;
+use std::alloc::{AllocError, AllocFailed};
 
 /// Why a line gets no answer of its own.
 #[derive(Clone, Copy, Debug, Drop, PartialEq, Eq)]
@@ -20,6 +20,17 @@ impl From<AllocError> for Unanswered {
     ghost from_gives = { λ _ unanswered. unanswered ≡ NoMemory };
 
     fn from(_error: AllocError) -> Unanswered {
+        Unanswered::NoMemory
+    }
+}
+
+impl<T: Drop> From<AllocFailed<T>> for Unanswered {
+    ghost use Rattle.std.specs.Prelude.{◌≡◌};
+    ghost use Rattle.message_check.specs.declared.unanswered.Unanswered.TheVariants.{NoMemory};
+
+    ghost from_gives = { λ _ unanswered. unanswered ≡ NoMemory };
+
+    fn from(_refused: AllocFailed<T>) -> Unanswered {
         Unanswered::NoMemory
     }
 }
