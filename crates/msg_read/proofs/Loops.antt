@@ -4,7 +4,7 @@ use Rattle.std.proofs.lemmas.List.{append-nil}
 use Rattle.fab_codec.specs.declared.faults.CodeFault.{CodeFault}
 use Rattle.msg_read.specs.declared.faults.DecodeFault.{DecodeFault}
 use Rattle.msg_read.specs.declared.faults.DecodeFault.TheVariants.{Code, NoMemory}
-use Rattle.msg_read.specs.Steps.{◌>>=◌, Fails, At, Reader, items}
+use Rattle.msg_read.specs.Steps.{◌>>=◌, Fails, At, items}
 
 -- what was read before, and what is still read
 abbrev pub with_front : {X : Type 0} → List X → Result (List X × At) CodeFault → Result (List X × At) CodeFault

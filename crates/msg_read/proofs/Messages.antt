@@ -1,16 +1,6 @@
 -- Messages keep the law of a reader.
-use Rattle.std.proofs.Common.{◌≡◌, ℕ, Bool, true, ◌&&◌, nat_lt, nat_le, nat_eq, List, [], ◌∷◌, ◌++◌, None, refl, ◌∙◌, arith}
+use Rattle.std.proofs.Common.{◌≡◌, ℕ, Bool, true, ◌&&◌, nat_lt, nat_le, nat_eq, List, ◌∷◌, ◌++◌, None, refl, ◌∙◌, arith}
 use Rattle.std.proofs.lemmas.List.{append-nil}
-use Rattle.fab_base.specs.declared.requests.Request.{Request}
-use Rattle.fab_base.specs.declared.messages.PrePrepare.{PrePrepare}
-use Rattle.fab_base.specs.declared.messages.Vote.{Vote}
-use Rattle.fab_base.specs.declared.messages.StableVote.{StableVote}
-use Rattle.fab_base.specs.declared.messages.CommitCert.{CommitCert}
-use Rattle.fab_base.specs.declared.messages.ViewChange.{ViewChange}
-use Rattle.fab_base.specs.declared.messages.NewView.{NewView}
-use Rattle.fab_base.specs.declared.messages.Plea.{Plea}
-use Rattle.fab_base.specs.declared.messages.Note.{Note}
-use Rattle.fab_base.specs.declared.messages.Ask.{Ask}
 use Rattle.fab_base.specs.declared.messages.Message.{Message}
 use Rattle.fab_rules.specs.Format.{request_fits, vote_fits, stable_vote_fits, share_fits, proposal_fits, view_change_fits, new_view_fits, plea_fits, note_fits, ask_fits, fields_fit}
 use Rattle.fab_rules.specs.Spelling.{body_of, seal_of}

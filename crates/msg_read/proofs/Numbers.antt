@@ -1,5 +1,5 @@
 -- Numbers and runs of bytes keep the law of a reader.
-use Rattle.std.proofs.Common.{◌≡◌, ℕ, ◌+◌, ◌^◌, ◌<◌, ◌≤◌, true, false, ◌&&◌, ltb, nat_lt, nat_eq, nat_le, List, [], ◌∷◌, ◌++◌, length, get_or, take, drop, Result, Ok, Err, refl, sym, ap, subst, ◌∙◌, length-drop, drop-drop, arith, inl, inr}
+use Rattle.std.proofs.Common.{◌≡◌, ℕ, ◌+◌, ◌^◌, ◌<◌, ◌≤◌, true, false, ◌&&◌, ltb, nat_lt, nat_eq, nat_le, List, [], ◌∷◌, ◌++◌, length, get_or, take, drop, Result, Ok, refl, sym, ap, subst, ◌∙◌, length-drop, drop-drop, arith, inl, inr}
 use Rattle.std.specs.Int.{Width, w8, w16, w32, w64, byte_len, from_be_bytes, to_be_bytes}
 use Rattle.std.proofs.lemmas.Bool.{cases_lt, ltb-false, le-ltb}
 use Rattle.std.proofs.lemmas.List.{take_at, take-append-drop, length-take, get_or-drop, get_or-take, get_or_past}
@@ -10,7 +10,7 @@ use Rattle.fab_base.proofs.Tests.{and_left, and_right, and_both, below, is_below
 use Rattle.fab_codec.specs.declared.faults.CodeFault.{CodeFault}
 use Rattle.fab_codec.specs.declared.faults.CodeFault.TheVariants.{Short}
 use Rattle.fab_codec.specs.Fields.{number_at, run_at}
-use Rattle.msg_read.specs.Steps.{◌>>=◌, At, moved}
+use Rattle.msg_read.specs.Steps.{At, moved}
 use Rattle.msg_read.specs.Fields.{number, run, limited, sized}
 use Rattle.msg_read.proofs.Readers.{Taken, left, IsRead, bind_ok, guard_ok, ok_is, inside_moved, next_read, made_read, checked_read}
 
@@ -159,4 +159,3 @@ sized_read {w} {limit} {spell} most lt wide = made_read (record {
   where
     len_is : (p : ℕ × List ℕ) → (nat_le p.0 most && ltb p.0 limit && (nat_eq (length p.1) p.0 && are_bytes p.1)) ≡ true → length p.1 ≡ p.0
     len_is p h = same (length p.1) p.0 (and_left (nat_eq (length p.1) p.0) (are_bytes p.1) (and_right (nat_le p.0 most && ltb p.0 limit) _ h))
-

@@ -1,5 +1,5 @@
 -- Operations, requests, votes, certificates and the other statements keep the law of a reader, in the words of their spelling.
-use Rattle.std.proofs.Common.{◌≡◌, ℕ, ◌^◌, ◌<◌, Bool, true, false, ◌&&◌, nat_lt, nat_le, nat_eq, List, [], ◌∷◌, ◌++◌, length, Option, Some, None, Ok, refl, sym, ap, subst, ◌∙◌, append_assoc, arith}
+use Rattle.std.proofs.Common.{◌≡◌, ℕ, ◌<◌, Bool, true, false, ◌&&◌, nat_lt, nat_le, nat_eq, List, [], ◌∷◌, ◌++◌, length, Option, None, Ok, refl, sym, ap, subst, ◌∙◌, append_assoc, arith}
 use Rattle.std.specs.Int.{w16, w32, w64, to_be_bytes}
 use Rattle.std.proofs.Math.Bool.{and_assoc}
 use Rattle.fab_base.specs.declared.limits.TheConstants.{LONGEST_KEY, LONGEST_VALUE, LONGEST_SIGNATURE, MOST_REQUESTS, MOST_STATEMENTS, MOST_CERTIFICATES}
@@ -13,22 +13,20 @@ use Rattle.fab_base.specs.declared.requests.Request.{Request}
 use Rattle.fab_base.specs.declared.messages.PrePrepare.{PrePrepare}
 use Rattle.fab_base.specs.declared.messages.Vote.{Vote}
 use Rattle.fab_base.specs.declared.messages.StableVote.{StableVote}
-use Rattle.fab_base.specs.declared.messages.PreparedCert.{PreparedCert}
 use Rattle.fab_base.specs.declared.messages.CommitCert.{CommitCert}
 use Rattle.fab_base.specs.declared.messages.ViewChange.{ViewChange}
 use Rattle.fab_base.specs.declared.messages.NewView.{NewView}
 use Rattle.fab_base.specs.declared.messages.Plea.{Plea}
-use Rattle.fab_base.specs.declared.messages.NoteLine.{NoteLine}
 use Rattle.fab_base.specs.declared.messages.Note.{Note}
 use Rattle.fab_base.specs.declared.messages.Ask.{Ask}
 use Rattle.fab_base.specs.Fields.{bytes_fit, op_fits}
 use Rattle.fab_rules.specs.Format.{is_u64, id_fits, digest_fits, signature_fits, comes_before, request_fits, batch_fits, vote_fits, votes_fit, stable_vote_fits, proof_fits, certificate_fits, certificates_fit, share_fits, proposal_fits, view_change_fits, view_changes_fit, new_view_fits, plea_fits, outcome_fits, line_fits, lines_fit, note_fits, ask_fits}
 use Rattle.fab_rules.specs.Spelling.{short_bytes, counted, replica_bytes, signed, op_bytes, request_body, request_bytes, spelling_of_batch, pre_prepare_body, vote_body, checkpoint_body, certificate_bytes, view_change_body, new_view_body, plea_body, outcome_bytes, line_bytes, note_body}
-use Rattle.msg_read.specs.Steps.{At, Reader, moved, comes_after}
+use Rattle.msg_read.specs.Steps.{At, moved, comes_after}
 use Rattle.msg_read.specs.Fields as fields
 use Rattle.msg_read.specs.Fields.{to_replica}
 use Rattle.msg_read.specs.Reading.{put_fields, get_fields, cut_fields, to_swap, swap_fields, op, to_request, request_fields, request, batch, to_proposal, proposal_fields, to_vote, vote_fields, vote, votes, to_stable_vote, checkpoint_fields, checkpoint, proof, to_certificate, certificate, certificates, to_view_change, view_change_fields, view_change, view_changes, to_new_view, new_view_fields, to_plea, plea_fields, found_fields, bare, outcome, to_line, line, lines, to_note, note_fields, to_share, share_fields, to_ask, ask_fields}
-use Rattle.msg_read.proofs.Readers.{Taken, IsRead, IsMadeBy, ok_is, both_read, made_read, by_parts, checked_read, passes_as, spelled_as}
+use Rattle.msg_read.proofs.Readers.{Taken, IsRead, ok_is, both_read, made_read, by_parts, checked_read, passes_as, spelled_as}
 use Rattle.msg_read.proofs.Numbers.{wide8, wide16, wide32, wide64, number_read, run_read, sized_read}
 use Rattle.msg_read.proofs.Branches.{behind_read, IsTagged, branch_read, none_read, all_read}
 use Rattle.msg_read.proofs.Counts.{moved_none, plain_read, rising_read}
@@ -250,7 +248,7 @@ unfolding certificate
 certificate_read last =
     passes_as (λ k. to_front (is_u64 k.view) (comes_after nat_lt last k.slot) (is_u64 k.slot) _)
     (made_read (by_parts to_certificate (λ k. (k.view, (k.slot, (k.batch, k.votes)))) (λ k. refl)
-        (λ p. three (to_be_bytes w64 p.0) (to_be_bytes w64 p.1.0) (spelling_of_batch p.1.1.0) (counted (λ v. signed (vote_body 3 v) v.sig) p.1.1.1)) (λ p. refl))
+    (λ p. three (to_be_bytes w64 p.0) (to_be_bytes w64 p.1.0) (spelling_of_batch p.1.1.0) (counted (λ v. signed (vote_body 3 v) v.sig) p.1.1.1)) (λ p. refl))
     (both_read (number_read wide64) (both_read (slot_read last) (both_read batch_read (votes_read 3 (omega arith))))))
 
 certificates_read : IsRead (counted certificate_bytes) certificates_fit certificates

@@ -1,5 +1,5 @@
 -- The fields of a message, as they are read (ours). A field is read whole before it is judged.
-use Rattle.std.specs.Prelude.{ℕ, List, Option, Result, Ok, Err, nat_lt, nat_le, nat_eq, if◌then◌else◌}
+use Rattle.std.specs.Prelude.{ℕ, List, Option, Ok, Err, nat_lt, nat_le, nat_eq, if◌then◌else◌}
 use Rattle.std.specs.Int.{Width, w8, w16, w64, byte_len}
 use Rattle.fab_base.specs.declared.limits.TheConstants.{LONGEST_SIGNATURE}
 use Rattle.fab_base.specs.declared.ids.ReplicaId.{ReplicaId}
@@ -7,7 +7,7 @@ use Rattle.fab_base.specs.declared.ids.Hash32.{Hash32}
 use Rattle.fab_codec.specs.declared.faults.CodeFault.TheVariants.{BadTag, TooLarge, NotAscending}
 use Rattle.fab_codec.specs.Fields.{number_at, run_at}
 use Rattle.fab_rules.specs.Format.{comes_before}
-use Rattle.msg_read.specs.Steps.{◌>>=◌, At, Reader, moved, next, both, made, checked, items, comes_after}
+use Rattle.msg_read.specs.Steps.{◌>>=◌, Reader, moved, next, both, made, checked, items, comes_after}
 
 -- a number, high byte first
 unfoldable pub number : Width → Reader ℕ

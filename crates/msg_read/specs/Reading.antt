@@ -1,5 +1,11 @@
--- Reading bytes as a message (ours). Of each kind that has a tag, NAME_fields reads what stands behind it.
-use Rattle.std.specs.Prelude.{ℕ, List, [], length, Option, Some, None, Result, Ok, Err, nat_lt, nat_eq, if◌then◌else◌}
+-- Reading bytes as a message (ours). Of a kind that has a tag, NAME_fields reads what stands behind the tag.
+--
+-- Fields are read from left to right, and the first fault is answered. Short: the field doesn't end inside the bytes; the place is their
+-- number. BadTag: the format, a tag, an operation's kind or an outcome isn't an expected one; its own place. TooLarge: a count or a length
+-- is above its greatest; the place of its first byte. NotAscending: the signers or the slots of a list don't rise; the place of the first
+-- byte of the one that doesn't. Trailing: the place of the first byte behind the spelling. Bytes beyond the greatest length are TooLarge
+-- at that length, whatever they are.
+use Rattle.std.specs.Prelude.{ℕ, List, length, Option, Some, None, Result, Ok, Err, nat_lt, nat_eq, if◌then◌else◌}
 use Rattle.std.specs.Int.{w8, w32, w64}
 use Rattle.fab_base.specs.declared.limits.TheConstants.{LONGEST_KEY, LONGEST_VALUE, LONGEST_MESSAGE, MOST_REQUESTS, MOST_STATEMENTS, MOST_CERTIFICATES}
 use Rattle.fab_base.specs.declared.ids.ReplicaId.{ReplicaId}
@@ -24,7 +30,7 @@ use Rattle.fab_base.specs.declared.messages.Ask.{Ask}
 use Rattle.fab_base.specs.declared.messages.Message.{Message}
 use Rattle.fab_codec.specs.declared.faults.CodeFault.{CodeFault}
 use Rattle.fab_codec.specs.declared.faults.CodeFault.TheVariants.{TooLarge, Trailing}
-use Rattle.msg_read.specs.Steps.{◌>>=◌, At, Reader, next, both, made, items}
+use Rattle.msg_read.specs.Steps.{◌>>=◌, Reader, both, made}
 use Rattle.msg_read.specs.Fields.{number, behind, branch, no_branch, counted, short_bytes, signature, digest, replica, signer, next_slot}
 
 -- ---- an operation: its kind, and then a key and values

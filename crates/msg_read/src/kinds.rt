@@ -16,18 +16,18 @@ impl Cursor<'_> {
     {
         let place = self.place as u64;
         match self.u8()? {
-            1 => Ok(Message::Request(self.request_fields()?)),
-            2 => Ok(Message::PrePrepare(self.proposal_fields()?)),
-            3 => Ok(Message::Prepare(self.vote_fields(None)?)),
-            4 => Ok(Message::Commit(self.vote_fields(None)?)),
-            5 => Ok(Message::Checkpoint(self.checkpoint_fields(None)?)),
-            6 => Ok(Message::ViewChange(self.view_change_fields(None)?)),
-            7 => Ok(Message::NewView(self.new_view_fields()?)),
-            8 => Ok(Message::Drvc(self.plea_fields()?)),
-            9 => Ok(Message::Rvc(self.plea_fields()?)),
-            10 => Ok(Message::ReplyNote(self.note_fields()?)),
-            11 => Ok(Message::Share(self.share_fields()?)),
-            12 => Ok(Message::Fetch(self.ask_fields()?)),
+            1 => self.request_fields().map(Message::Request),
+            2 => self.proposal_fields().map(Message::PrePrepare),
+            3 => self.vote_fields(None).map(Message::Prepare),
+            4 => self.vote_fields(None).map(Message::Commit),
+            5 => self.checkpoint_fields(None).map(Message::Checkpoint),
+            6 => self.view_change_fields(None).map(Message::ViewChange),
+            7 => self.new_view_fields().map(Message::NewView),
+            8 => self.plea_fields().map(Message::Drvc),
+            9 => self.plea_fields().map(Message::Rvc),
+            10 => self.note_fields().map(Message::ReplyNote),
+            11 => self.share_fields().map(Message::Share),
+            12 => self.ask_fields().map(Message::Fetch),
             _ => Err(DecodeFault::Code(CodeFault::BadTag { place })),
         }
     }

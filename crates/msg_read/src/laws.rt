@@ -12,5 +12,4 @@ pub fn spelling_law()
     ensures none_begins_another { (m n : Message) → IsTrue (fields_fit m) → IsTrue (fields_fit n) → IsPrefixOf (spelling_of m) (spelling_of n) → spelling_of m ≡ spelling_of n }
     ensures equal_messages { (m n : Message) → IsTrue (fields_fit m) → IsTrue (fields_fit n) → spelling_of m ≡ spelling_of n → m ≡ n }
     ensures equal_statements { (m n : Message) → IsTrue (fields_fit m) → IsTrue (fields_fit n) → content_of m ≡ content_of n → unsigned m ≡ unsigned n }
-{
-}
+{}

@@ -1,4 +1,4 @@
-use Rattle.std.proofs.Common.{◌≡◌, subst, arith}
+use Rattle.std.proofs.Common.{subst, arith}
 use Rattle.msg_read.specs.Steps.{Gives}
 use Rattle.msg_read.proofs.Whole.{is_found, is_read}
 use Rattle.msg_read.proofs.decoding.decode.Goals as goal

@@ -1,4 +1,4 @@
-use Rattle.std.proofs.Common.{◌≡◌, ap}
+use Rattle.std.proofs.Common.{ap}
 use Rattle.fab_rules.specs.Spelling.{spelling_of}
 use Rattle.msg_read.proofs.Unique.{begun, equal, told}
 use Rattle.msg_read.proofs.laws.spelling_law.Goals as goal
