@@ -39,7 +39,8 @@ digest_long : (d : Hash32) → digest_fits d ≡ true → length d.bytes ≡ 32
 digest_long d h = same (length d.bytes) 32 (and_left _ (are_bytes d.bytes) h)
 
 -- a list of at most so many items, each of which is spelled in at most so many bytes
-module _ {X : Type 0} (test : X → Bool) (spell : X → List ℕ) (longest : ℕ) (each : (x : X) → test x ≡ true → length (spell x) ≤ longest) where
+module _ {X : Type 0} (test : X → Bool) (spell : X → List ℕ) (longest : ℕ)
+    (each : (x : X) → test x ≡ true → length (spell x) ≤ longest) where
   pub items_short : (items : List X) → list_all test items ≡ true → length (flat_map spell items) ≤ length items * longest
   items_short [] h = omega arith
   items_short (x ∷ items) h =
@@ -117,7 +118,8 @@ vote_body_short tag v h =
     omega (arith, digest_long v.digest (and_left (digest_fits v.digest) _ rest))
 
 vote_signed : (v : Vote) → vote_fits v ≡ true → signature_fits v.sig ≡ true
-vote_signed v h = and_right (digest_fits v.digest) _ (and_right (is_u64 v.slot) _ (and_right (is_u64 v.view) _ (and_right (id_fits v.signer) _ h)))
+vote_signed v h =
+    and_right (digest_fits v.digest) _ (and_right (is_u64 v.slot) _ (and_right (is_u64 v.view) _ (and_right (id_fits v.signer) _ h)))
 
 abbrev longest_vote : ℕ
 longest_vote = longest_vote_body + longest_seal
@@ -159,8 +161,8 @@ pub proof_short : (votes : List StableVote) → proof_fits votes ≡ true
     → length (counted (λ (v : StableVote). signed (checkpoint_body v) v.sig) votes) ≤ longest_proof
 proof_short votes h =
     let rest = and_right (at_most MOST_STATEMENTS votes) _ h in
-    counted_short stable_vote_fits (λ (v : StableVote). signed (checkpoint_body v) v.sig) longest_checkpoint checkpoint_short MOST_STATEMENTS votes
-    (and_left (at_most MOST_STATEMENTS votes) _ h) (and_left (list_all stable_vote_fits votes) _ rest)
+    counted_short stable_vote_fits (λ (v : StableVote). signed (checkpoint_body v) v.sig) longest_checkpoint checkpoint_short MOST_STATEMENTS
+    votes (and_left (at_most MOST_STATEMENTS votes) _ h) (and_left (list_all stable_vote_fits votes) _ rest)
 
 abbrev longest_certificate : ℕ
 longest_certificate = 16 + longest_batch + longest_votes
@@ -279,7 +281,8 @@ plea_short : (tag : ℕ) (x : Plea) → plea_fits x ≡ true → length (plea_bo
 plea_short tag x h = omega arith
 
 plea_signed : (x : Plea) → plea_fits x ≡ true → signature_fits x.sig ≡ true
-plea_signed x h = and_right (is_u32 x.count) _ (and_right (is_u64 x.round) _ (and_right (is_u8 x.target) _ (and_right (id_fits x.signer) _ h)))
+plea_signed x h =
+    and_right (is_u32 x.count) _ (and_right (is_u64 x.round) _ (and_right (is_u8 x.target) _ (and_right (id_fits x.signer) _ h)))
 
 pub drvc_is_spelled : (x : Plea) → plea_fits x ≡ true → fits (Message.Drvc x) ≡ true
 drvc_is_spelled x h = fitting (Message.Drvc x) h (omega (arith, plea_short 8 x h, seal_short x.sig (plea_signed x h)))

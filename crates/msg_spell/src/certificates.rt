@@ -1,4 +1,4 @@
-//! Certificates.
+//! Prepared certificates, and commit certificates that are shared.
 ghost use Rattle.std.specs.Prelude.{◌≡◌, ◌++◌, ◌∷◌, IsTrue, OnOk};
 ghost use Rattle.fab_base.specs.declared.messages.Message.{Message};
 ghost use Rattle.fab_rules.specs.Spelling.{counted, certificate_bytes, body_of};
@@ -8,6 +8,7 @@ ghost use Rattle.msg_spell.specs.Pieces.{Gains};
 use crate::fields::{put_u8, put_u64};
 use crate::requests::{batch_fits, put_batch};
 use crate::spelled::{Fits, Ordered, Spelled, list_fits, put_counted};
+use crate::tags::{COMMIT, PREPARE, SHARE};
 use crate::votes::{put_votes, votes_fit};
 use crate::writers::Writer;
 use fab_base::{CommitCert, MOST_CERTIFICATES, PreparedCert, PreparedCerts};
@@ -47,7 +48,7 @@ impl Spelled for PreparedCert {
         put_u64(out, self.view)?;
         put_u64(out, self.slot)?;
         put_batch(out, &self.batch)?;
-        put_votes(out, 3, &self.votes)?;
+        put_votes(out, PREPARE, &self.votes)?;
         Ok(())
     }
 }
@@ -78,14 +79,14 @@ pub fn share_fits(share: &CommitCert) -> bool
     batch_fits(&share.batch) && votes_fit(&share.votes)
 }
 
-/// Writes a certificate that is shared, but for the format.
+/// Writes a certificate that is shared, but for the format. It has no signature of its own.
 pub fn put_share<W: Writer>(out: &mut W, share: &CommitCert) -> Result<(), W::Fault>
     requires { IsTrue (share_fits share.now) }
     ensures { OnOk result (Gains W.holds out.old out.new (body_of (Message.Share share.now))) }
 {
-    put_u8(out, 11)?;
+    put_u8(out, SHARE)?;
     put_u8(out, share.cluster)?;
     put_batch(out, &share.batch)?;
-    put_votes(out, 4, &share.votes)?;
+    put_votes(out, COMMIT, &share.votes)?;
     Ok(())
 }

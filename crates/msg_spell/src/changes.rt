@@ -9,6 +9,7 @@ use crate::fields::{
     comes_before, id_fits, put_replica, put_signature, put_u8, put_u64, signature_fits,
 };
 use crate::spelled::{Fits, Ordered, Spelled, list_fits, put_counted};
+use crate::tags::{NEW_VIEW, VIEW_CHANGE};
 use crate::votes::{proof_fits, put_proof};
 use crate::writers::Writer;
 use fab_base::{MOST_STATEMENTS, NewView, ReplicaId, ViewChange, ViewChanges};
@@ -47,7 +48,7 @@ pub fn put_view_change_body<W: Writer>(out: &mut W, change: &ViewChange) -> Resu
     requires { IsTrue (view_change_fits change.now) }
     ensures { OnOk result (Gains W.holds out.old out.new (view_change_body change.now)) }
 {
-    put_u8(out, 6)?;
+    put_u8(out, VIEW_CHANGE)?;
     put_replica(out, change.signer)?;
     put_u64(out, change.view)?;
     put_u64(out, change.low)?;
@@ -68,6 +69,7 @@ impl Spelled for ViewChange {
     }
 }
 
+/// Whether there are at most so many changes as a list may have, each within the ranges, counts and lengths, and their signers rise.
 fn view_changes_fit(changes: &ViewChanges) -> bool
     ensures { result ≡ view_changes_fit changes.now }
 {
@@ -87,7 +89,7 @@ pub fn put_new_view_body<W: Writer>(out: &mut W, new_view: &NewView) -> Result<(
     requires { IsTrue (new_view_fits new_view.now) }
     ensures { OnOk result (Gains W.holds out.old out.new (new_view_body new_view.now)) }
 {
-    put_u8(out, 7)?;
+    put_u8(out, NEW_VIEW)?;
     put_replica(out, new_view.signer)?;
     put_u64(out, new_view.view)?;
     put_counted(out, &new_view.changes)?;

@@ -9,28 +9,28 @@ ghost use Rattle.msg_spell.specs.Pieces.{Gains};
 use crate::writers::Writer;
 use fab_base::{Bytes, Hash32, LONGEST_SIGNATURE, ReplicaId};
 
-/// Whether there are at most so many bytes.
+/// Whether there are at most so many bytes. That each is below 256 is known from its type.
 pub fn bytes_fit(bytes: &[u8], longest: usize) -> bool
     ensures { result ≡ bytes_fit longest bytes.now }
 {
     bytes.len() <= longest
 }
 
-/// Whether a signature isn't too long.
+/// Whether a signature has at most as many bytes as one may have.
 pub fn signature_fits(signature: &Bytes) -> bool
     ensures { result ≡ signature_fits signature.now }
 {
     bytes_fit(signature.as_slice(), LONGEST_SIGNATURE)
 }
 
-/// A digest has 32 bytes.
+/// That a digest is in its field, as its type tells: it has 32 bytes.
 pub fn digest_fits(digest: &Hash32) -> bool
     ensures { result ≡ digest_fits digest.now }
 {
     bytes_fit(&digest.bytes, 32)
 }
 
-/// Numbers of a replica are within their ranges, which their types tell.
+/// That the numbers of a replica are in their fields, as their types tell.
 pub fn id_fits(replica: ReplicaId) -> bool
     ensures { result ≡ id_fits replica }
 {
@@ -47,24 +47,28 @@ pub fn comes_before(first: ReplicaId, second: ReplicaId) -> bool
         || (first.cluster == second.cluster && first.index < second.index)
 }
 
+/// Writes a byte.
 pub fn put_u8<W: Writer>(out: &mut W, value: u8) -> Result<(), W::Fault>
     ensures { OnOk result (Gains W.holds out.old out.new (value ∷ [])) }
 {
     out.write(&[value])
 }
 
+/// Writes a number in four bytes, the high byte first.
 pub fn put_u32<W: Writer>(out: &mut W, value: u32) -> Result<(), W::Fault>
     ensures { OnOk result (Gains W.holds out.old out.new (to_be_bytes w32 value)) }
 {
     out.write(&value.to_be_bytes())
 }
 
+/// Writes a number in eight bytes, the high byte first.
 pub fn put_u64<W: Writer>(out: &mut W, value: u64) -> Result<(), W::Fault>
     ensures { OnOk result (Gains W.holds out.old out.new (to_be_bytes w64 value)) }
 {
     out.write(&value.to_be_bytes())
 }
 
+/// Writes the number of the bytes, of which there are at most 255, and the bytes.
 pub fn put_short<W: Writer>(out: &mut W, bytes: &Bytes) -> Result<(), W::Fault>
     requires { length bytes.now ≤ 255 }
     ensures { OnOk result (Gains W.holds out.old out.new (short_bytes bytes.now)) }
@@ -73,6 +77,7 @@ pub fn put_short<W: Writer>(out: &mut W, bytes: &Bytes) -> Result<(), W::Fault>
     out.write(bytes.as_slice())
 }
 
+/// Writes the number of the bytes of a signature, in two bytes, and the signature.
 pub fn put_signature<W: Writer>(out: &mut W, signature: &Bytes) -> Result<(), W::Fault>
     requires { IsTrue (signature_fits signature.now) }
     ensures { OnOk result (Gains W.holds out.old out.new (signed [] signature.now)) }
@@ -81,9 +86,11 @@ pub fn put_signature<W: Writer>(out: &mut W, signature: &Bytes) -> Result<(), W:
     out.write(signature.as_slice())
 }
 
+/// Writes the cluster and the index of a replica.
 pub fn put_replica<W: Writer>(out: &mut W, replica: ReplicaId) -> Result<(), W::Fault>
     ensures { OnOk result (Gains W.holds out.old out.new (replica_bytes replica)) }
 {
     put_u8(out, replica.cluster)?;
-    put_u8(out, replica.index)
+    put_u8(out, replica.index)?;
+    Ok(())
 }

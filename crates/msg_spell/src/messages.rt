@@ -1,4 +1,4 @@
-//! Whole messages.
+//! Whole messages: the number of the format, the body, and the seal of a signed kind.
 ghost use Rattle.std.specs.Prelude.{◌≡◌, ◌∷◌, IsTrue, IfOk, OnOk, length, min};
 ghost use Rattle.std.specs.Option.{is_some};
 ghost use Rattle.fab_rules.specs.Spelling.{body_of, seal_of, content_of, spelling_of};
@@ -13,11 +13,13 @@ use crate::notes::{note_fits, put_note_body};
 use crate::pleas::{ask_fits, plea_fits, put_ask, put_plea_body};
 use crate::requests::{proposal_fits, put_proposal_body, put_request_body};
 use crate::spelled::Fits;
+use crate::tags::{COMMIT, DRVC, FORMAT, PREPARE, RVC};
 use crate::votes::{put_checkpoint_body, put_vote_body};
 use crate::writers::{Length, Writer};
 use fab_base::{Bytes, LONGEST_MESSAGE, Message, NoMemory};
 use std::alloc::Global;
 
+/// Writes what stands between the number of the format and the signature.
 fn put_body<W: Writer>(out: &mut W, message: &Message) -> Result<(), W::Fault>
     requires { IsTrue (fields_fit message.now) }
     ensures { OnOk result (Gains W.holds out.old out.new (body_of message.now)) }
@@ -25,19 +27,20 @@ fn put_body<W: Writer>(out: &mut W, message: &Message) -> Result<(), W::Fault>
     match message {
         Message::Request(request) => put_request_body(out, request),
         Message::PrePrepare(proposal) => put_proposal_body(out, proposal),
-        Message::Prepare(vote) => put_vote_body(out, 3, vote),
-        Message::Commit(vote) => put_vote_body(out, 4, vote),
+        Message::Prepare(vote) => put_vote_body(out, PREPARE, vote),
+        Message::Commit(vote) => put_vote_body(out, COMMIT, vote),
         Message::Checkpoint(vote) => put_checkpoint_body(out, vote),
         Message::ViewChange(change) => put_view_change_body(out, change),
         Message::NewView(new_view) => put_new_view_body(out, new_view),
-        Message::Drvc(plea) => put_plea_body(out, 8, plea),
-        Message::Rvc(plea) => put_plea_body(out, 9, plea),
+        Message::Drvc(plea) => put_plea_body(out, DRVC, plea),
+        Message::Rvc(plea) => put_plea_body(out, RVC, plea),
         Message::ReplyNote(note) => put_note_body(out, note),
         Message::Share(share) => put_share(out, share),
         Message::Fetch(ask) => put_ask(out, ask),
     }
 }
 
+/// Writes the signature, where the kind has one.
 fn put_seal<W: Writer>(out: &mut W, message: &Message) -> Result<(), W::Fault>
     requires { IsTrue (fields_fit message.now) }
     ensures { OnOk result (Gains W.holds out.old out.new (seal_of message.now)) }
@@ -58,23 +61,25 @@ fn put_seal<W: Writer>(out: &mut W, message: &Message) -> Result<(), W::Fault>
     }
 }
 
-#[tactic(auto, unfolding(fab_rules::specs::Spelling::content_of))]
+/// Writes what is signed of a message.
 fn put_content<W: Writer>(out: &mut W, message: &Message) -> Result<(), W::Fault>
     requires { IsTrue (fields_fit message.now) }
     ensures { OnOk result (Gains W.holds out.old out.new (content_of message.now)) }
 {
-    put_u8(out, 1)?;
-    put_body(out, message)
+    put_u8(out, FORMAT)?;
+    put_body(out, message)?;
+    Ok(())
 }
 
-#[tactic(auto, unfolding(fab_rules::specs::Spelling::spelling_of))]
+/// Writes a message.
 fn put_message<W: Writer>(out: &mut W, message: &Message) -> Result<(), W::Fault>
     requires { IsTrue (fields_fit message.now) }
     ensures { OnOk result (Gains W.holds out.old out.new (spelling_of message.now)) }
 {
-    put_u8(out, 1)?;
+    put_u8(out, FORMAT)?;
     put_body(out, message)?;
-    put_seal(out, message)
+    put_seal(out, message)?;
+    Ok(())
 }
 
 /// The number of bytes of a message's spelling, or the last value of a `usize` where there are more.
@@ -88,6 +93,7 @@ fn spelled_length(message: &Message) -> usize
     }
 }
 
+/// Whether every field is within its range, count or length, and lists rise.
 fn fields_fit(message: &Message) -> bool
     ensures { result ≡ fields_fit message.now }
 {
@@ -107,14 +113,15 @@ fn fields_fit(message: &Message) -> bool
     }
 }
 
-/// Whether a message has a spelling.
+/// Whether a message has a spelling: each of its lists, keys, values and signatures is within its greatest count or length, the signers
+/// of each list and the slots of prepared certificates rise, and the whole is at most `LONGEST_MESSAGE` bytes (ours). Takes no memory.
 pub fn fits(message: &Message) -> bool
     ensures { result ≡ fits message.now }
 {
     fields_fit(message) && spelled_length(message) <= LONGEST_MESSAGE
 }
 
-/// The spelling of a message.
+/// The spelling of a message, which has one. It fails only where memory is refused.
 pub fn encode(alloc: Global, message: &Message) -> Result<Bytes, NoMemory>
     requires { IsTrue (fits message.now) }
     ensures { IfOk result (λ bytes. bytes ≡ spelling_of message.now) }
@@ -124,7 +131,8 @@ pub fn encode(alloc: Global, message: &Message) -> Result<Bytes, NoMemory>
     Ok(Bytes::from_vec(out))
 }
 
-/// What is signed of a message.
+/// What the signer of a message signs: the number of the format, and everything of the spelling in front of the signature. The message
+/// has a spelling, and is of a kind that somebody signs. It fails only where memory is refused.
 pub fn content(alloc: Global, message: &Message) -> Result<Bytes, NoMemory>
     requires fits { IsTrue (fits message.now) }
     requires signed { IsTrue (is_some (signer_of message.now)) }

@@ -9,9 +9,11 @@ use crate::fields::{
     signature_fits,
 };
 use crate::spelled::{Fits, Spelled, all_fit, put_counted};
+use crate::tags::{ABSENT, AGAIN, EARLY, FOUND, REPLY_NOTE, WROTE};
 use crate::writers::Writer;
 use fab_base::{LONGEST_VALUE, MOST_REQUESTS, Note, NoteLine, NoteLines, Outcome, Reply};
 
+/// Whether the value of an outcome, if it has one, isn't too long.
 fn outcome_fits(outcome: &Outcome) -> bool
     ensures { result ≡ outcome_fits outcome.now }
 {
@@ -21,19 +23,20 @@ fn outcome_fits(outcome: &Outcome) -> bool
     }
 }
 
+/// Writes an outcome, with the value that was found.
 fn put_outcome<W: Writer>(out: &mut W, outcome: &Outcome) -> Result<(), W::Fault>
     requires { IsTrue (outcome_fits outcome.now) }
     ensures { OnOk result (Gains W.holds out.old out.new (outcome_bytes outcome.now)) }
 {
     match outcome {
-        Outcome::Done(Reply::Wrote) => put_u8(out, 1),
+        Outcome::Done(Reply::Wrote) => put_u8(out, WROTE),
         Outcome::Done(Reply::Found(value)) => {
-            put_u8(out, 2)?;
+            put_u8(out, FOUND)?;
             put_short(out, value)
         }
-        Outcome::Done(Reply::Absent) => put_u8(out, 3),
-        Outcome::Again => put_u8(out, 4),
-        Outcome::Early => put_u8(out, 5),
+        Outcome::Done(Reply::Absent) => put_u8(out, ABSENT),
+        Outcome::Again => put_u8(out, AGAIN),
+        Outcome::Early => put_u8(out, EARLY),
     }
 }
 
@@ -57,10 +60,12 @@ impl Spelled for NoteLine {
     fn put<W: Writer>(&self, out: &mut W) -> Result<(), W::Fault> {
         put_u8(out, self.client.number)?;
         put_u32(out, self.stamp)?;
-        put_outcome(out, &self.outcome)
+        put_outcome(out, &self.outcome)?;
+        Ok(())
     }
 }
 
+/// Whether there are at most so many lines as a note may have, each within the ranges and lengths.
 fn lines_fit(lines: &NoteLines) -> bool
     ensures { result ≡ lines_fit lines.now }
 {
@@ -83,7 +88,7 @@ pub fn put_note_body<W: Writer>(out: &mut W, note: &Note) -> Result<(), W::Fault
     requires { IsTrue (note_fits note.now) }
     ensures { OnOk result (Gains W.holds out.old out.new (note_body note.now)) }
 {
-    put_u8(out, 10)?;
+    put_u8(out, REPLY_NOTE)?;
     put_replica(out, note.signer)?;
     put_u64(out, note.round)?;
     out.write(&note.digest.bytes)?;

@@ -6,6 +6,7 @@ ghost use Rattle.fab_rules.specs.Format.{plea_fits, ask_fits};
 ghost use Rattle.msg_spell.specs.Pieces.{Gains};
 
 use crate::fields::{id_fits, put_replica, put_u8, put_u32, put_u64, signature_fits};
+use crate::tags::FETCH;
 use crate::writers::Writer;
 use fab_base::{Ask, Plea};
 
@@ -19,7 +20,7 @@ pub fn plea_fits(plea: &Plea) -> bool
     id_fits(plea.signer) && signature_fits(&plea.sig)
 }
 
-/// Writes what is signed of a plea, but for the format: under the tag 8 inside the own cluster, under 9 to the other one.
+/// Writes what is signed of a plea, but for the format, under the tag of a Drvc or of an Rvc.
 pub fn put_plea_body<W: Writer>(out: &mut W, tag: u8, plea: &Plea) -> Result<(), W::Fault>
     ensures { OnOk result (Gains W.holds out.old out.new (plea_body tag plea.now)) }
 {
@@ -31,7 +32,7 @@ pub fn put_plea_body<W: Writer>(out: &mut W, tag: u8, plea: &Plea) -> Result<(),
     Ok(())
 }
 
-/// Every ask is within the ranges.
+/// That an ask is within the ranges, as its type tells.
 pub fn ask_fits(ask: &Ask) -> bool
     ensures { result ≡ ask_fits ask.now }
 {
@@ -40,11 +41,11 @@ pub fn ask_fits(ask: &Ask) -> bool
     id_fits(ask.asker)
 }
 
-/// Writes an ask, but for the format.
+/// Writes an ask, but for the format. It has no signature.
 pub fn put_ask<W: Writer>(out: &mut W, ask: &Ask) -> Result<(), W::Fault>
     ensures { OnOk result (Gains W.holds out.old out.new (body_of (Message.Fetch ask.now))) }
 {
-    put_u8(out, 12)?;
+    put_u8(out, FETCH)?;
     put_replica(out, ask.asker)?;
     put_u8(out, ask.cluster)?;
     put_u64(out, ask.round)?;

@@ -1,4 +1,4 @@
-//! Requests and batches.
+//! Operations, requests, batches, and what is proposed.
 ghost use Rattle.std.specs.Prelude.{◌≡◌, IsTrue, OnOk};
 ghost use Rattle.fab_base.specs.Fields.{op_fits};
 ghost use Rattle.fab_rules.specs.Spelling.{op_bytes, request_body, spelling_of_batch, pre_prepare_body};
@@ -10,9 +10,11 @@ use crate::fields::{
     signature_fits,
 };
 use crate::spelled::{Fits, Spelled, all_fit, put_counted};
+use crate::tags::{CUT, GET, PRE_PREPARE, PUT, REQUEST, SWAP};
 use crate::writers::Writer;
 use fab_base::{Batch, LONGEST_KEY, LONGEST_VALUE, MOST_REQUESTS, Op, PrePrepare, Request};
 
+/// Whether the key and the values of an operation are within their lengths.
 fn op_fits(op: &Op) -> bool
     ensures { result ≡ op_fits op.now }
 {
@@ -46,7 +48,7 @@ impl Fits for Request {
     }
 }
 
-/// Whether a batch is within the greatest count, and its requests within theirs.
+/// Whether there are at most so many requests as a batch may have, each within the ranges and lengths.
 pub fn batch_fits(batch: &Batch) -> bool
     ensures { result ≡ batch_fits batch.now }
 {
@@ -62,22 +64,23 @@ pub fn proposal_fits(proposal: &PrePrepare) -> bool
     id_fits(proposal.signer) && batch_fits(&proposal.batch) && signature_fits(&proposal.sig)
 }
 
+/// Writes an operation: its kind, its key and its values.
 fn put_op<W: Writer>(out: &mut W, op: &Op) -> Result<(), W::Fault>
     requires { IsTrue (op_fits op.now) }
     ensures { OnOk result (Gains W.holds out.old out.new (op_bytes op.now)) }
 {
     match op {
         Op::Put { key, value } => {
-            put_u8(out, 1)?;
+            put_u8(out, PUT)?;
             put_short(out, key)?;
             put_short(out, value)
         }
         Op::Get { key } => {
-            put_u8(out, 2)?;
+            put_u8(out, GET)?;
             put_short(out, key)
         }
         Op::Cut { key } => {
-            put_u8(out, 3)?;
+            put_u8(out, CUT)?;
             put_short(out, key)
         }
         Op::Swap {
@@ -85,7 +88,7 @@ fn put_op<W: Writer>(out: &mut W, op: &Op) -> Result<(), W::Fault>
             expected,
             fresh,
         } => {
-            put_u8(out, 4)?;
+            put_u8(out, SWAP)?;
             put_short(out, key)?;
             put_short(out, expected)?;
             put_short(out, fresh)
@@ -93,14 +96,16 @@ fn put_op<W: Writer>(out: &mut W, op: &Op) -> Result<(), W::Fault>
     }
 }
 
+/// Writes what is signed of a request, but for the format.
 pub fn put_request_body<W: Writer>(out: &mut W, request: &Request) -> Result<(), W::Fault>
     requires { IsTrue (request_fits request.now) }
     ensures { OnOk result (Gains W.holds out.old out.new (request_body request.now)) }
 {
-    put_u8(out, 1)?;
+    put_u8(out, REQUEST)?;
     put_u8(out, request.client.number)?;
     put_u32(out, request.stamp)?;
-    put_op(out, &request.op)
+    put_op(out, &request.op)?;
+    Ok(())
 }
 
 impl Spelled for Request {
@@ -110,10 +115,12 @@ impl Spelled for Request {
 
     fn put<W: Writer>(&self, out: &mut W) -> Result<(), W::Fault> {
         put_request_body(out, self)?;
-        put_signature(out, &self.sig)
+        put_signature(out, &self.sig)?;
+        Ok(())
     }
 }
 
+/// Writes the number of the requests and their spellings.
 pub fn put_batch<W: Writer>(out: &mut W, batch: &Batch) -> Result<(), W::Fault>
     requires { IsTrue (batch_fits batch.now) }
     ensures { OnOk result (Gains W.holds out.old out.new (spelling_of_batch batch.now)) }
@@ -121,11 +128,12 @@ pub fn put_batch<W: Writer>(out: &mut W, batch: &Batch) -> Result<(), W::Fault>
     put_counted(out, batch)
 }
 
+/// Writes what is signed of a proposal, but for the format.
 pub fn put_proposal_body<W: Writer>(out: &mut W, proposal: &PrePrepare) -> Result<(), W::Fault>
     requires { IsTrue (proposal_fits proposal.now) }
     ensures { OnOk result (Gains W.holds out.old out.new (pre_prepare_body proposal.now)) }
 {
-    put_u8(out, 2)?;
+    put_u8(out, PRE_PREPARE)?;
     put_replica(out, proposal.signer)?;
     put_u64(out, proposal.view)?;
     put_u64(out, proposal.slot)?;

@@ -10,11 +10,11 @@ use crate::fields::put_u8;
 use crate::writers::Writer;
 use fab_base::Rows;
 
-/// What is within the ranges, counts and lengths of the format, or isn't.
+/// What is tested against the ranges, counts and lengths of the format.
 pub trait Fits {
     ghost fits: { Self → Bool };
 
-    /// Whether it is within them. Ranges of numbers are known from their types, and not tested.
+    /// Whether it is within them. That a number is within its range is known from its type, and not tested.
     fn fits(&self) -> bool
         ensures { result ≡ fits self.now };
 }
@@ -31,7 +31,7 @@ pub trait Spelled: Fits {
 
 /// What stands in lists that rise.
 pub trait Ordered {
-    /// What it stands in order of.
+    /// What the order is by.
     type Rank;
 
     ghost rank: { Self → Self.Rank };
@@ -69,6 +69,7 @@ pub fn list_fits<T: Fits + Ordered>(items: &Rows<T>, most: u8) -> bool
     items.len() <= most as usize && all_fit(items.as_slice()) && all_rise(items.as_slice())
 }
 
+/// Writes the spellings of the items.
 fn put_all<W: Writer, T: Spelled>(out: &mut W, items: &[T]) -> Result<(), W::Fault>
     requires { IsTrue (list_all T.fits items.now) }
     ensures { OnOk result (Gains W.holds out.old out.new (flat_map T.spelling items.now)) }

@@ -9,6 +9,7 @@ use crate::fields::{
     comes_before, digest_fits, id_fits, put_replica, put_signature, put_u8, put_u64, signature_fits,
 };
 use crate::spelled::{Fits, Ordered, Spelled, list_fits, put_counted};
+use crate::tags::CHECKPOINT;
 use crate::writers::Writer;
 use fab_base::{MOST_STATEMENTS, ReplicaId, StableVote, StableVotes, Vote, Votes};
 
@@ -45,7 +46,7 @@ pub fn votes_fit(votes: &Votes) -> bool
     list_fits(votes, MOST_STATEMENTS)
 }
 
-/// Writes what is signed of a vote, but for the format: under the tag 3 of a Prepare, under 4 of a Commit.
+/// Writes what is signed of a vote, but for the format, under the tag of a Prepare or of a Commit.
 pub fn put_vote_body<W: Writer>(out: &mut W, tag: u8, vote: &Vote) -> Result<(), W::Fault>
     ensures { OnOk result (Gains W.holds out.old out.new (vote_body tag vote.now)) }
 {
@@ -57,6 +58,7 @@ pub fn put_vote_body<W: Writer>(out: &mut W, tag: u8, vote: &Vote) -> Result<(),
     Ok(())
 }
 
+/// Writes a vote under this tag.
 fn put_vote<W: Writer>(out: &mut W, tag: u8, vote: &Vote) -> Result<(), W::Fault>
     requires { IsTrue (vote_fits vote.now) }
     ensures { OnOk result (Gains W.holds out.old out.new (signed (vote_body tag vote.now) vote.now.sig)) }
@@ -66,6 +68,7 @@ fn put_vote<W: Writer>(out: &mut W, tag: u8, vote: &Vote) -> Result<(), W::Fault
     Ok(())
 }
 
+/// Writes the votes under this tag.
 fn put_each_vote<W: Writer>(out: &mut W, tag: u8, votes: &[Vote]) -> Result<(), W::Fault>
     requires { IsTrue (list_all vote_fits votes.now) }
     ensures { OnOk result (Gains W.holds out.old out.new (flat_map (λ v. signed (vote_body tag v) v.sig) votes.now)) }
@@ -121,7 +124,7 @@ pub fn proof_fits(proof: &StableVotes) -> bool
 pub fn put_checkpoint_body<W: Writer>(out: &mut W, vote: &StableVote) -> Result<(), W::Fault>
     ensures { OnOk result (Gains W.holds out.old out.new (checkpoint_body vote.now)) }
 {
-    put_u8(out, 5)?;
+    put_u8(out, CHECKPOINT)?;
     put_replica(out, vote.signer)?;
     put_u64(out, vote.round)?;
     out.write(&vote.digest.bytes)?;

@@ -1,4 +1,4 @@
-use Rattle.std.proofs.Common.{◌≡◌, ◌&&◌, length, nat_le, true, arith, sym}
+use Rattle.std.proofs.Common.{length, nat_le, arith, sym}
 use Rattle.std.proofs.Math.Bool.{and-true}
 use Rattle.fab_base.proofs.Bytes.{are_bytes_of}
 use Rattle.msg_spell.proofs.fields.bytes_fit.Goals as goal

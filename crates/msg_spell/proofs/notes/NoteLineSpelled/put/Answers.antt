@@ -1,0 +1,5 @@
+use Rattle.msg_spell.proofs.Joining.{joined}
+use Rattle.msg_spell.proofs.notes.NoteLineSpelled.put.Goals as goal
+
+pub returns : goal.returns
+returns g c = joined (joined c.in_ok-put_u8.ensures c.in_ok-put_u32.ensures) c.in_ok-put_outcome.ensures
