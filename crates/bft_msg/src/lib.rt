@@ -11,16 +11,16 @@
 //! `shape` are one, and so is the look at the signatures, in the crate above. No call here but `decode`, `encode` and `content` takes
 //! memory.
 //!
-//! Modules: `check` has the question, `rolls` the lists inside a message, `walking` the walk; `strangers` is the first pass and
+//! Modules: `check` has the question, `listings` the lists inside a message, `walking` the walk; `strangers` is the first pass and
 //! `misfits` the second, of which `numbers`, `rules` and `certificates` have the tests; `shaping` is the whole look, and `shaped` what
 //! comes of it.
 #![tactic(auto)]
 
 mod certificates;
 mod check;
+mod listings;
 mod misfits;
 mod numbers;
-mod rolls;
 mod rules;
 mod shaped;
 mod shaping;

@@ -8,7 +8,7 @@ ghost use Rattle.bft_msg.specs.Inside.{parts_inside};
 ghost use Rattle.bft_msg.specs.Passing.{Passes, Clears};
 
 use crate::check::Check;
-use crate::rolls::{Certificates, Changes, Checkpoints, Commits, Requests, walk_all, walk_both};
+use crate::listings::{Certificates, Changes, Checkpoints, Commits, Requests, walk_all, walk_both};
 use fab_base::Message;
 
 /// Asks of each part inside the message, which are numbered from 1.

@@ -1,9 +1,9 @@
 use Rattle.std.proofs.lemmas.Result.{err_from_is_err_and}
 use Rattle.bft_msg.proofs.Passes.{leads_first, leads_at, leads_room, leads_able, leads_on, leads_out, leads_end}
-use Rattle.bft_msg.proofs.rolls.walk_all.Goals as goal
+use Rattle.bft_msg.proofs.listings.walk_all.Goals as goal
 
 pub loop-item-init : goal.loop-item-init
-loop-item-init g c = leads_first c.args.items.now (g.met.L.Roll.lists c.args.items.now) c.requires.room c.requires.may
+loop-item-init g c = leads_first c.args.items.now (g.met.L.Listing.lists c.args.items.now) c.requires.room c.requires.may
 
 pub walk-requires-clause-room : goal.walk-requires-clause-room
 walk-requires-clause-room g c = leads_room (leads_at c.args.items.now c.loop-item.item-index c.item-item.result c.loop-item.invariant c.loop-item-test.true c.item-item.is)

@@ -8,7 +8,7 @@ use fab_base::{PreparedCert, Request, StableVote, ViewChange, Vote};
 
 /// A kind of list inside a message, by what is listed: a statement, or what holds some. `parts` are those of an item, `listed` those
 /// of a list of them.
-pub(crate) trait Roll {
+pub(crate) trait Listing {
     ghost use Rattle.std.specs.Prelude.{◌≡◌, ◌+◌, ◌<◌, ◌^◌, List, length};
     ghost use Rattle.std.specs.List.{AllByRecursion, flat_map};
     ghost use Rattle.fab_base.specs.declared.messages.Message.{Message};
@@ -31,7 +31,7 @@ pub(crate) trait Roll {
 }
 
 /// Asks of each part of all items, the first of which has this number. Answers the number behind the last.
-pub(crate) fn walk_all<L: Roll, C: Check>(
+pub(crate) fn walk_all<L: Listing, C: Check>(
     check: &C,
     first: u32,
     items: &[L::Item],
@@ -48,7 +48,7 @@ pub(crate) fn walk_all<L: Roll, C: Check>(
 }
 
 /// Asks of each part of the items of one list, and then of another.
-pub(crate) fn walk_both<L: Roll, M: Roll, C: Check>(
+pub(crate) fn walk_both<L: Listing, M: Listing, C: Check>(
     check: &C,
     first: u32,
     items: &[L::Item],
@@ -65,7 +65,7 @@ pub(crate) fn walk_both<L: Roll, M: Roll, C: Check>(
 /// The requests of a batch.
 pub(crate) struct Requests;
 
-impl Roll for Requests {
+impl Listing for Requests {
     ghost use Rattle.std.specs.Prelude.{[], ◌∷◌, map};
     ghost use Rattle.std.proofs.Common.{sym};
     ghost use Rattle.std.proofs.lemmas.List.Concat.{flat_map_single};
@@ -88,7 +88,7 @@ impl Roll for Requests {
 /// The Prepares of a prepared certificate.
 pub(crate) struct Prepares;
 
-impl Roll for Prepares {
+impl Listing for Prepares {
     ghost use Rattle.std.specs.Prelude.{[], ◌∷◌, map};
     ghost use Rattle.std.proofs.Common.{sym};
     ghost use Rattle.std.proofs.lemmas.List.Concat.{flat_map_single};
@@ -111,7 +111,7 @@ impl Roll for Prepares {
 /// The Commits of a commit certificate.
 pub(crate) struct Commits;
 
-impl Roll for Commits {
+impl Listing for Commits {
     ghost use Rattle.std.specs.Prelude.{[], ◌∷◌, map};
     ghost use Rattle.std.proofs.Common.{sym};
     ghost use Rattle.std.proofs.lemmas.List.Concat.{flat_map_single};
@@ -134,7 +134,7 @@ impl Roll for Commits {
 /// The Checkpoints of a proof.
 pub(crate) struct Checkpoints;
 
-impl Roll for Checkpoints {
+impl Listing for Checkpoints {
     ghost use Rattle.std.specs.Prelude.{[], ◌∷◌, map};
     ghost use Rattle.std.proofs.Common.{sym};
     ghost use Rattle.std.proofs.lemmas.List.Concat.{flat_map_single};
@@ -157,7 +157,7 @@ impl Roll for Checkpoints {
 /// The prepared certificates of a view change.
 pub(crate) struct Certificates;
 
-impl Roll for Certificates {
+impl Listing for Certificates {
     ghost use Rattle.std.specs.Prelude.{refl};
     ghost use Rattle.std.specs.List.{flat_map};
     ghost use Rattle.fab_rules.specs.Statements.{parts_of_certificate};
@@ -183,7 +183,7 @@ impl Roll for Certificates {
 /// The view changes of a new view.
 pub(crate) struct Changes;
 
-impl Roll for Changes {
+impl Listing for Changes {
     ghost use Rattle.std.specs.Prelude.{refl};
     ghost use Rattle.std.specs.List.{flat_map};
     ghost use Rattle.fab_rules.specs.Statements.{parts_of_change};

@@ -1,7 +1,0 @@
-use Rattle.std.proofs.Common.{drop}
-use Rattle.bft_msg.proofs.Passes.{Leads}
-use Rattle.bft_msg.proofs.rolls.walk_all.Given as goal
-
-abbrev pub invariant-loop-item : goal.invariant-loop-item
-invariant-loop-item g l =
-    Leads (g.C.Check.may l.check) g.C.Check.free (g.C.Check.wrong l.check) g.L.Roll.parts l.first (g.L.Roll.listed l.items) l.part (drop l.item-index l.items)
