@@ -42,6 +42,17 @@ fn public_key(alloc: Global, seed: u64, name: &[u8], height: Height) -> Result<P
     Ok(key.public())
 }
 
+/// Puts a key behind the others.
+fn put_key(keys: &mut Vec<Public>, key: Public) -> Result<(), NoMemory>
+    requires key { IsTrue (is_fabric_key key) }
+    requires kinds { IsTrue (list_all is_fabric_key keys.old.items) }
+    ensures more { OnOk result (length keys.new.items ≡ length keys.old.items + 1) }
+    ensures kinds { OnOk result (IsTrue (list_all is_fabric_key keys.new.items)) }
+{
+    keys.push(key)?;
+    Ok(())
+}
+
 /// Puts the keys of a cluster's replicas behind the others.
 fn put_cluster(
     alloc: Global,
@@ -57,7 +68,7 @@ fn put_cluster(
     ensures kinds { OnOk result (IsTrue (list_all is_fabric_key keys.new.items)) }
 {
     for index in 0..size {
-        keys.push(public_key(alloc, seed, &[1, cluster, index], height)?)?;
+        put_key(keys, public_key(alloc, seed, &[1, cluster, index], height)?)?;
     }
     Ok(())
 }
@@ -88,7 +99,7 @@ pub(crate) fn client_keys(alloc: Global, seed: u64, count: u8) -> Result<Vec<Pub
 {
     let mut keys = Vec::new(alloc);
     for number in 0..count {
-        keys.push(public_key(alloc, seed, &[2, number], Height::H5)?)?;
+        put_key(&mut keys, public_key(alloc, seed, &[2, number], Height::H5)?)?;
     }
     Ok(keys)
 }

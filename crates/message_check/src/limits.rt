@@ -1,6 +1,6 @@
 //! Whether a fabric is within its limits.
-ghost use Rattle.std.specs.Prelude.{◌≡◌, ◌+◌, ◌≤◌, ◌&&◌, nat_le, length, sum, IfSome, IsTrue};
-ghost use Rattle.std.specs.List.{list_all};
+ghost use Rattle.std.specs.Prelude.{◌≡◌, ◌+◌, ◌≤◌, All, length, sum, IfSome, IsTrue};
+ghost use Rattle.fab_base.specs.declared.limits.TheConstants.{MOST_REPLICAS, MOST_CLUSTERS, MOST_MEMBERS, MOST_SLOTS, MOST_REQUESTS};
 ghost use Rattle.fab_base.specs.Limits.{IsWithinLimits};
 
 use fab_base::{
@@ -8,12 +8,15 @@ use fab_base::{
 };
 
 /// Whether each number is from 1 to the greatest.
-fn are_up_to(numbers: &[u8], greatest: usize) -> bool
-    ensures { result ≡ list_all (λ n. nat_le 1 n && nat_le n greatest) numbers.now }
+fn are_up_to(numbers: &[u8], greatest: u8) -> bool
+    ensures { IsTrue result → All (λ n. (1 ≤ n) × (n ≤ greatest)) numbers.now }
 {
-    numbers
-        .iter()
-        .all(|n| *n >= 1 && usize::from(*n) <= greatest)
+    for number in numbers {
+        if *number == 0 || *number > greatest {
+            return false;
+        }
+    }
+    true
 }
 
 /// How many places are left for replicas beside clusters of these sizes, or none if there are too few.
@@ -30,6 +33,30 @@ fn places_left(sizes: &[u8]) -> Option<u8>
     Some(left)
 }
 
+/// Whether clusters may have these sizes.
+fn are_sizes(sizes: &[u8]) -> bool
+    ensures { IsTrue result → (length sizes.now ≤ MOST_CLUSTERS) × All (λ n. (1 ≤ n) × (n ≤ MOST_MEMBERS)) sizes.now × (sum sizes.now ≤ MOST_REPLICAS) }
+{
+    if sizes.len() > usize::from(MOST_CLUSTERS) || !are_up_to(sizes, MOST_MEMBERS) {
+        return false;
+    }
+    match places_left(sizes) {
+        Some(_) => true,
+        None => false,
+    }
+}
+
+/// Whether replicas may share these settings.
+fn are_settings(window: u8, interval: u8, batch: u8) -> bool
+    ensures { IsTrue result → ((1 ≤ window) × (window ≤ MOST_SLOTS)) × ((1 ≤ interval) × (interval ≤ window)) × ((1 ≤ batch) × (batch ≤ MOST_REQUESTS)) }
+{
+    interval >= 1
+        && interval <= window
+        && window <= MOST_SLOTS
+        && batch >= 1
+        && batch <= MOST_REQUESTS
+}
+
 /// Whether a fabric of these sizes, homes and settings is within the limits.
 pub(crate) fn is_within_limits(
     sizes: &[u8],
@@ -40,15 +67,8 @@ pub(crate) fn is_within_limits(
 ) -> bool
     ensures { IsTrue result → IsWithinLimits (record { sizes = sizes.now; homes = homes.now; window = window; interval = interval; batch = batch }) }
 {
-    sizes.len() <= usize::from(MOST_CLUSTERS)
-        && are_up_to(sizes, usize::from(MOST_MEMBERS))
-        && places_left(sizes).is_some()
+    are_sizes(sizes)
         && homes.len() <= usize::from(MOST_CLIENTS)
-        && are_up_to(homes, sizes.len())
-        && window >= 1
-        && window <= MOST_SLOTS
-        && interval >= 1
-        && interval <= window
-        && batch >= 1
-        && batch <= MOST_REQUESTS
+        && are_up_to(homes, sizes.len() as u8)
+        && are_settings(window, interval, batch)
 }
