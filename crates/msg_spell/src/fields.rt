@@ -34,8 +34,6 @@ pub fn digest_fits(digest: &Hash32) -> bool
 pub fn id_fits(replica: ReplicaId) -> bool
     ensures { result ≡ id_fits replica }
 {
-    let _cluster = replica.cluster;
-    let _index = replica.index;
     true
 }
 
