@@ -1,0 +1,48 @@
+#!/usr/bin/env bash
+# Counts the instructions of `verify` and of `decode` on three messages of a cluster of ten: a Prepare, a Share of 7 Commits, and a new
+# view of 7 view changes. Run by hand.
+#
+# Counted with valgrind's callgrind, which is the same in each run, inside the call alone, and asserted: of `verify` at most 3 of 100
+# instructions are outside SHA-256's block function, and `decode` of the new view takes at most 2 instructions a byte.
+# `bench/verify.messages` has the fabric and the messages as message_check reads them.
+set -euo pipefail
+top=$(cd "$(dirname "${BASH_SOURCE[0]}")/.." && pwd)
+program=$("$top/tests/message_program.sh")
+work=$(mktemp -d)
+trap 'rm -rf "$work"' EXIT
+passed=0
+failed=0
+
+check() { # check WHAT HOLDS
+  if [ "$2" = 1 ]; then passed=$((passed + 1)); echo "ok: $1"; else failed=$((failed + 1)); echo "FAILED: $1"; fi
+}
+
+# Prints the instructions of the block function and all instructions inside calls of FUNCTION, for the message in LINE.
+count() { # count FUNCTION LINE
+  sed -n "1p;$2p" "$top/bench/verify.messages" >"$work/asked"
+  valgrind --tool=callgrind --toggle-collect="$1" --callgrind-out-file="$work/out" "$program" <"$work/asked" >"$work/answer" 2>"$work/log"
+  grep -q '^Ok ' "$work/answer"
+  local inside all
+  inside=$(callgrind_annotate "$work/out" | awk '/compress/ { gsub(",", "", $1); sum += $1 } END { print sum + 0 }')
+  all=$(awk '/^(summary|totals):/ { print $2; exit }' "$work/out")
+  echo "$inside $all"
+}
+
+line=2
+for message in "a Prepare" "a Share of 7 Commits" "a new view of 7 changes"; do
+  read -r inside all < <(count 'bft_verify::verifying::verify*' $line)
+  share=$(awk "BEGIN { printf \"%.2f\", $all ? 100 * ($all - $inside) / $all : 100 }")
+  check "verify of $message: $share of 100 instructions outside the block function, $all in all" \
+    "$(awk "BEGIN { print $all > 0 && $share <= 3 }")"
+  bytes=$(sed -n "${line}p" "$top/bench/verify.messages" | awk '{ print length($0) / 2 }')
+  read -r inside all < <(count 'msg_read::decoding::decode*' $line)
+  each=$(awk "BEGIN { printf \"%.2f\", $all / $bytes }")
+  if [ $line = 4 ]; then
+    check "decode of $message: $each instructions a byte, $bytes bytes" "$(awk "BEGIN { print $all > 0 && $each <= 2 }")"
+  else
+    echo "decode of $message: $each instructions a byte, $bytes bytes"
+  fi
+  line=$((line + 1))
+done
+echo "$passed passed, $failed failed"
+[ "$failed" = 0 ]
