@@ -71,7 +71,17 @@ fn make_fabric(
 /// The fabric that a line names.
 pub(crate) fn read_fabric(alloc: Global, line: &str) -> Result<Fabric, Unanswered> {
     let words: Vec<&str> = line.split(' ').collect(alloc)?;
-    let ["fabric", sizes, homes, window, interval, batch, levels, seed] = words.as_slice() else {
+    let [
+        "fabric",
+        sizes,
+        homes,
+        window,
+        interval,
+        batch,
+        levels,
+        seed,
+    ] = words.as_slice()
+    else {
         return Err(Unanswered::Unreadable);
     };
     let sizes = numbers(alloc, sizes)?;
@@ -79,5 +89,12 @@ pub(crate) fn read_fabric(alloc: Global, line: &str) -> Result<Fabric, Unanswere
     let settings = (number(window)?, number(interval)?, number(batch)?);
     let levels = height(levels)?;
     let seed = seed.parse().or(Err(Unanswered::Unreadable))?;
-    make_fabric(alloc, sizes.as_slice(), homes.as_slice(), settings, levels, seed)
+    make_fabric(
+        alloc,
+        sizes.as_slice(),
+        homes.as_slice(),
+        settings,
+        levels,
+        seed,
+    )
 }

@@ -99,7 +99,10 @@ pub(crate) fn client_keys(alloc: Global, seed: u64, count: u8) -> Result<Vec<Pub
 {
     let mut keys = Vec::new(alloc);
     for number in 0..count {
-        put_key(&mut keys, public_key(alloc, seed, &[2, number], Height::H5)?)?;
+        put_key(
+            &mut keys,
+            public_key(alloc, seed, &[2, number], Height::H5)?,
+        )?;
     }
     Ok(keys)
 }

@@ -3,4 +3,4 @@ use Rattle.fab_base.specs.declared.limits.TheConstants.{MOST_REPLICAS}
 use Rattle.message_check.proofs.limits.places_left.Given as goal
 
 abbrev pub invariant-loop-size : goal.invariant-loop-size
-invariant-loop-size l = l.left + sum l.size-items ≡ MOST_REPLICAS + sum (drop l.size-index l.size-items)
+invariant-loop-size l = l.left + sum l.sizes ≡ MOST_REPLICAS + sum (drop l.size-index l.sizes)
