@@ -1,0 +1,8 @@
+//! Rounds.
+#![tactic(auto)]
+
+mod applying;
+mod certificates;
+mod place;
+
+pub use fab_base::NoMemory;
