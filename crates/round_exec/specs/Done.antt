@@ -1,6 +1,5 @@
 -- What was executed, and how it is stored beside the ledger: the outcomes of each block, the chain after each round, and the table.
-use Rattle.std.specs.Prelude.{◌≡◌, ℕ, ◌-◌, ◌*◌, ◌≤◌, List, [], ◌∷◌, length, map, take, IsTrue, All, Option}
-use Rattle.std.specs.List.{range_with_len}
+use Rattle.std.specs.Prelude.{◌≡◌, ℕ, ◌++◌, ◌+◌, ◌-◌, ◌*◌, ◌<◌, ◌≤◌, List, [], ◌∷◌, length, map, take, slice_get, IsTrue, All, Option, Some}
 use Rattle.std.specs.Map.{keys_of}
 use Rattle.fab_base.specs.Table.{State, empty_state}
 use Rattle.fab_base.specs.declared.ids.Hash32.{Hash32}
@@ -18,21 +17,24 @@ pub record Done : Type 0 where
   pub executed : ℕ
   pub blocks : List Block
 
+-- a round more
+abbrev pub with_blocks : Done → List Block → Done
+with_blocks d more = record { clusters = d.clusters; clients = d.clients; executed = d.executed + 1; blocks = d.blocks ++ more }
+
 -- what the blocks come to, one after another
 abbrev pub outcomes_in : State → List Block → List (List Outcome)
 outcomes_in state blocks = map (λ ran. ran.outcomes) (run_from state blocks)
 
--- the chain before the first round, after it, and so on, so many in all
-abbrev pub chains_of : ℕ → List Block → ℕ → List Hash32
-chains_of clusters blocks n = map (λ i. chain_of (take (i * clusters) blocks)) (range_with_len 0 n)
+-- the chain before the first round, after it, and so on
+abbrev pub AreChains : ℕ → List Block → List Hash32 → Type 0
+AreChains clusters blocks chains = (i : ℕ) → i < length chains → slice_get chains i ≡ Some (chain_of (take (i * clusters) blocks))
 
 -- how all of it is stored
 pub record IsStored (clusters clients : ℕ) (blocks : List Block) (outcomes : List (List Outcome)) (chains : List Hash32) (table : Holding) : Type 0 where
-  pub some : 1 ≤ clusters
   pub begun : 1 ≤ length chains
   pub whole : length blocks ≡ (length chains - 1) * clusters
   pub outcomes_are : outcomes ≡ outcomes_in (empty_state clients) blocks
-  pub chains_are : chains ≡ chains_of clusters blocks (length chains)
+  pub chains_are : AreChains clusters blocks chains
   pub state_is : state_of table ≡ state_after_blocks (empty_state clients) blocks
   pub clients_are : length table.stamps ≡ clients
 

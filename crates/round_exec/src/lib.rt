@@ -3,6 +3,7 @@
 
 mod applying;
 mod certificates;
+mod executed;
 mod place;
 
 pub use fab_base::NoMemory;

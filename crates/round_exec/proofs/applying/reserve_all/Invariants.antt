@@ -6,7 +6,8 @@ use Rattle.round_exec.specs.Done.{AreHeld, rooms_for}
 use Rattle.round_exec.proofs.applying.reserve_all.Given as goal
 
 abbrev pub invariant-loop-block : goal.invariant-loop-block
-invariant-loop-block l =
-    (l.rooms.items ≡ rooms_for (take l.block-index l.blocks))
-    × AreHeld (keys_of l.table.held) (take l.block-index l.blocks)
-    × (state_of l.table ≡ state_of l.fn.table)
+invariant-loop-block l = record {
+  rooms : l.rooms.items ≡ rooms_for (take l.block-index l.blocks);
+  held : AreHeld (keys_of l.table.held) (take l.block-index l.blocks);
+  state : state_of l.table ≡ state_of l.fn.table;
+}
