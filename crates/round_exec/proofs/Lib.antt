@@ -1,3 +1,4 @@
 pub mod Finding
 pub mod Running
 pub mod Storing
+pub mod Gathered

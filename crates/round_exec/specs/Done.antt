@@ -49,3 +49,7 @@ AreHeld keys blocks = All (λ b. All (λ r. HoldsFor keys r.op) b.batch) blocks
 -- what the blocks may write
 abbrev pub rooms_for : List Block → List (List (Option (List ℕ)))
 rooms_for blocks = map (λ b. values_written b.batch) blocks
+
+-- so many sound blocks
+abbrev pub AreWhole : ℕ → ℕ → List Block → Type 0
+AreWhole count clients blocks = (length blocks ≡ count) × AreSound clients blocks

@@ -1,3 +1,4 @@
 pub mod Book
 pub mod Keyed
 pub mod Done
+pub mod Running

@@ -61,6 +61,18 @@ impl Executed {
         self.chains.len() as u64
     }
 
+    /// Where its memory comes from.
+    pub(crate) fn alloc(&self) -> Global {
+        *self.chains.allocator()
+    }
+
+    /// The number of clusters.
+    pub(crate) fn clusters(&self) -> u8
+        ensures { result ≡ self.now.clusters }
+    {
+        self.clusters
+    }
+
     /// The ledger.
     pub(crate) fn ledger(&self) -> &Blocks
         ensures { result.now ≡ self.now.blocks }
