@@ -1,0 +1,4 @@
+pub mod Finding
+pub mod Running
+pub mod Storing
+pub mod Gathered

@@ -1,0 +1,4 @@
+pub mod Book
+pub mod Keyed
+pub mod Done
+pub mod Running
