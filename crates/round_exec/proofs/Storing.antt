@@ -48,6 +48,7 @@ chains_more z blocks more chains b w m h i l = go (cases_lt i (length chains))
   where
     last : Hash32
     last = chain_from (chain_of blocks) more
+
     go : (i < length chains) ⊎ (length chains ≤ i) → slice_get (chains ++ last ∷ []) i ≡ Some (chain_of (take (i * z) (blocks ++ more)))
     go (inl below) =
         get_front chains (last ∷ []) i below

@@ -34,9 +34,9 @@ impl Model for Rounds {
     ghost Value = { Book };
 
     ghost view = { λ r. record {
-        clusters = r.done.clusters;
-        clients = r.done.clients;
-        rounds = record { executed = r.done.executed; certificates = r.certificates; blocks = r.done.blocks };
+      clusters = r.done.clusters;
+      clients = r.done.clients;
+      rounds = record { executed = r.done.executed; certificates = r.certificates; blocks = r.done.blocks };
     } };
 
     ghost invariant = { λ r. list_all (is_keepable r.done.clusters r.done.clients) r.certificates ≡ true };
@@ -97,7 +97,12 @@ impl Rounds {
         ensures next { IfOk result (λ gathered. gathered ≡ next_round self.now.clusters self.now.rounds) }
         ensures whole { IfOk result (λ gathered. IfOk gathered (λ blocks. AreWhole self.now.clusters self.now.clients blocks)) }
     {
-        gather(self.done.alloc(), &self.certificates, self.done.next(), self.done.clusters())
+        gather(
+            self.done.alloc(),
+            &self.certificates,
+            self.done.next(),
+            self.done.clusters(),
+        )
     }
 
     /// The blocks of all executed rounds, the oldest first.

@@ -8,7 +8,12 @@ use fab_rules::{Block, Blocks};
 use std::alloc::Global;
 
 /// The blocks of a round, one of each cluster, or the first cluster that has no certificate.
-pub(crate) fn gather(alloc: Global, certificates: &Certificates, round: u64, clusters: u8) -> Result<Result<Blocks, u8>, NoMemory>
+pub(crate) fn gather(
+    alloc: Global,
+    certificates: &Certificates,
+    round: u64,
+    clusters: u8,
+) -> Result<Result<Blocks, u8>, NoMemory>
     ensures { IfOk result (λ gathered. gathered ≡ blocks_from certificates.now round 1 clusters) }
 {
     let mut blocks = Vec::with_capacity(alloc, usize::from(clusters))?;

@@ -18,9 +18,9 @@ invariant_of-self-2 c =
     let kept : c.reserve.new.self.items ≡ c.self.inside.outcomes.items = c.reserve.ensures.items in
     let state : state_of c.reserve_all.new.table ≡ state_of c.self.inside.table = c.reserve_all.ensures.state in
     let outcomes : c.apply_all.new.outcomes.items ≡ c.self.inside.outcomes.items ++ outcomes_in (state_of c.self.inside.table) more =
-            c.apply_all.ensures.outcomes ∙ (λ i. kept i ++ outcomes_in (state i) (tail i)) in
+    c.apply_all.ensures.outcomes ∙ (λ i. kept i ++ outcomes_in (state i) (tail i)) in
     let after : state_of c.apply_all.new.table ≡ state_after_blocks (state_of c.self.inside.table) more =
-            c.apply_all.ensures.state ∙ (λ i. state_after_blocks (state i) (tail i)) in
+    c.apply_all.ensures.state ∙ (λ i. state_after_blocks (state i) (tail i)) in
     let linked : c.chain_after-chain.result ≡ chain_from (chain_of blocks) more = search rules in
     let pushed : c.push.new.self.items ≡ c.self.inside.chains.items ++ c.chain_after-chain.result ∷ [] = search rules in
     let chains = pushed ∙ ap (λ x. c.self.inside.chains.items ++ x ∷ []) linked in
