@@ -17,10 +17,11 @@ check() { # check WHAT HOLDS
   if [ "$2" = 1 ]; then passed=$((passed + 1)); echo "ok: $1"; else failed=$((failed + 1)); echo "FAILED: $1"; fi
 }
 
-# Prints the instructions of the block function and all instructions inside calls of FUNCTION, for the message in LINE.
-count() { # count FUNCTION LINE
-  sed -n "1p;$2p" "$top/bench/verify.messages" >"$work/asked"
-  valgrind --tool=callgrind --toggle-collect="$1" --callgrind-out-file="$work/out" "$program" <"$work/asked" >"$work/answer" 2>"$work/log"
+# Prints the instructions of SHA-256's block function and all instructions inside `verify`, for the message in LINE.
+count_verify() { # count_verify LINE
+  sed -n "1p;$1p" "$top/bench/verify.messages" >"$work/asked"
+  valgrind --tool=callgrind --toggle-collect='bft_verify::verifying::verify*' --callgrind-out-file="$work/out" \
+    "$program" <"$work/asked" >"$work/answer" 2>"$work/log"
   grep -q '^Ok ' "$work/answer"
   local inside all
   inside=$(callgrind_annotate "$work/out" | awk '/compress/ { gsub(",", "", $1); sum += $1 } END { print sum + 0 }')
@@ -28,17 +29,30 @@ count() { # count FUNCTION LINE
   echo "$inside $all"
 }
 
+# Prints the instructions of the calls into msg_read, for the message in LINE. `decode` itself is inlined where it is called, so the
+# calls that it makes are summed, without what frees memory.
+count_decode() { # count_decode LINE
+  sed -n "1p;$1p" "$top/bench/verify.messages" >"$work/asked"
+  valgrind --tool=callgrind --compress-strings=no --compress-pos=no --callgrind-out-file="$work/out" \
+    "$program" <"$work/asked" >"$work/answer" 2>"$work/log"
+  grep -q '^Ok ' "$work/answer"
+  awk '/^fn=/ { caller = substr($0, 4) }
+    /^cfn=/ { called = substr($0, 5) }
+    /^calls=/ { getline; if (caller !~ /^msg_read/ && called ~ /^msg_read/ && called !~ /drop/) sum += $2 }
+    END { print sum + 0 }' "$work/out"
+}
+
 line=2
 for message in "a Prepare" "a Share of 7 Commits" "a new view of 7 changes"; do
-  read -r inside all < <(count 'bft_verify::verifying::verify*' $line)
+  read -r inside all < <(count_verify $line)
   share=$(awk "BEGIN { printf \"%.2f\", $all ? 100 * ($all - $inside) / $all : 100 }")
   check "verify of $message: $share of 100 instructions outside the block function, $all in all" \
-    "$(awk "BEGIN { print $all > 0 && $share <= 3 }")"
+    "$(awk "BEGIN { print ($all > 0 && $share <= 3) }")"
   bytes=$(sed -n "${line}p" "$top/bench/verify.messages" | awk '{ print length($0) / 2 }')
-  read -r inside all < <(count 'msg_read::decoding::decode*' $line)
+  all=$(count_decode $line)
   each=$(awk "BEGIN { printf \"%.2f\", $all / $bytes }")
   if [ $line = 4 ]; then
-    check "decode of $message: $each instructions a byte, $bytes bytes" "$(awk "BEGIN { print $all > 0 && $each <= 2 }")"
+    check "decode of $message: $each instructions a byte, $bytes bytes" "$(awk "BEGIN { print ($all > 0 && $each <= 2) }")"
   else
     echo "decode of $message: $each instructions a byte, $bytes bytes"
   fi
