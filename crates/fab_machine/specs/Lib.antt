@@ -8,4 +8,5 @@ pub mod Rounds
 pub mod Step
 pub mod Diaries
 pub mod LocalState
+pub mod ReplicaState
 pub mod Relation

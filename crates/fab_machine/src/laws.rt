@@ -16,10 +16,11 @@ ghost use Rattle.fab_machine.specs.State.{Local, Rounds, Replica, fresh_local, f
 ghost use Rattle.fab_machine.specs.Requests.{InOrder};
 ghost use Rattle.fab_machine.specs.Proposing.{eligible, propose};
 ghost use Rattle.fab_machine.specs.Serving.{served};
-ghost use Rattle.fab_machine.specs.Rounds.{round_of, IsCertificate, certificate_for, keep, block_of, next_round};
+ghost use Rattle.fab_machine.specs.Rounds.{round_of, certificate_for, keep, block_of, next_round};
 ghost use Rattle.fab_machine.specs.Step.{Event, hear, step, moves};
 ghost use Rattle.fab_machine.specs.Diaries.{MayCome, diary_after, diary_of};
 ghost use Rattle.fab_machine.specs.LocalState.{IsLocalState};
+ghost use Rattle.fab_machine.specs.ReplicaState.{IsKeptCertificate, IsReplicaState};
 ghost use Rattle.fab_machine.specs.Relation.{AreLocal, AreRelated, IsTold};
 ghost use Rattle.fab_machine.specs.declared.outs.Out.{Out};
 
@@ -61,13 +62,21 @@ pub fn state_law()
     ensures hears { (r : Roster) (me : ReplicaId) (l : Local) (m : Message) → IsWithinLimits r → IsTrue (is_replica r me) → IsShaped r m
         → IsLocalState r me l → IsLocalState r me (hear r me l m).local }
     ensures certifies { (r : Roster) (me : ReplicaId) (l : Local) (m : Message) (k : CommitCert) → IsWithinLimits r → IsTrue (is_replica r me) → IsShaped r m
-        → IsLocalState r me l → In (Out.Certified k) (hear r me l m).outs → IsCertificate (length r.sizes) k }
+        → IsLocalState r me l → In (Out.Certified k) (hear r me l m).outs → IsKeptCertificate r k }
     ensures proposes { (r : Roster) (me : ReplicaId) (l : Local) (nudged known : Bool) → IsLocalState r me l
         → IsLocalState r me (propose r me l nudged known).local }
     ensures proposes_none { (r : Roster) (me : ReplicaId) (l : Local) (nudged known : Bool) (k : CommitCert)
         → In (Out.Certified k) (propose r me l nudged known).outs → ⊥ }
     ensures serves { (r : Roster) (me : ReplicaId) (l : Local) (round : ℕ) (batch : List Request) (outcomes : List Outcome) → IsLocalState r me l
         → IsLocalState r me (served l round batch outcomes) }
+{}
+
+/// What the state of a whole replica keeps by itself, whatever it heard before: it holds at the start (`starts`) and after each event
+/// that may come (`keeps`). So every certificate that is kept is one that may be kept, and whatever waits to be sent has a spelling.
+pub fn replica_law()
+    ensures starts { (r : Roster) (me : ReplicaId) → IsWithinLimits r → IsTrue (is_replica r me) → IsReplicaState r me (fresh r me) }
+    ensures keeps { (r : Roster) (me : ReplicaId) (s : Replica) (e : Event) → IsWithinLimits r → IsTrue (is_replica r me) → MayCome r e
+        → IsReplicaState r me s → IsReplicaState r me (step r me s e).state }
 {}
 
 /// What the words on rounds come to. The first certificate of a round and cluster stays, whatever comes after it (`first_stays`); one of

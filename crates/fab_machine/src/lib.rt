@@ -12,14 +12,14 @@
 //! - `Voting`, `Requests`, `Proposing`, `Serving`: local ordering. Each of its functions gives a `Told`: the answer, the state, and
 //!   what it brings about, which is a list of `Out`.
 //! - `Rounds`: the first certificate of a round and cluster is kept; a round with all of them is executed; what the ledger comes to.
-//! - `LocalState`: what a state of local ordering keeps by itself, whatever it heard.
+//! - `LocalState`, `ReplicaState`: what the state of local ordering and of a whole replica keep by themselves, whatever was heard.
 //! - `Step`: the five events, and the questions that ask beforehand whether one would do anything.
 //! - `Diaries`: what an event adds to the diary of what was heard, said and done, of which `fab_rules` has the rules.
 //! - `Relation`: what the state remembers of the diary.
 //!
 //! `step_law` is the promise: after every list of events, in whatever order they come and whatever is heard, the diary is that of an
-//! honest replica. `local_law` is the part of it that local ordering keeps for itself, and `state_law` says what its state keeps without
-//! any diary, on which code rests. `rounds_law` tells in plain words what the functions of rounds come to.
+//! honest replica. `local_law` is the part of it that local ordering keeps for itself, and `state_law` and `replica_law` say what a state
+//! keeps without any diary, on which code rests. `rounds_law` tells in plain words what the functions of rounds come to.
 //!
 //! View changes, checkpoints and what clusters tell each other aren't here yet: a message of theirs is heard and answered `Stray`. The
 //! state has what they will need of the view and of the low mark.
@@ -28,5 +28,5 @@
 mod laws;
 mod outs;
 
-pub use laws::{local_law, rounds_law, state_law, step_law};
+pub use laws::{local_law, replica_law, rounds_law, state_law, step_law};
 pub use outs::{Out, Outs};

@@ -1,0 +1,27 @@
+-- What the calls inside see: the same without the mark of a refusal.
+use Rattle.std.specs.Prelude.{◌≡◌, length, IsTrue}
+use Rattle.fab_base.specs.Limits.{Roster, IsWithinLimits}
+use Rattle.fab_base.specs.Roster.{is_replica, size_of}
+use Rattle.fab_base.specs.declared.ids.ReplicaId.{ReplicaId}
+use Rattle.fab_machine.specs.State.{Local}
+
+pub record Inside : Type 0 where
+  pub roster : Roster
+  pub me : ReplicaId
+  pub local : Local
+
+-- what holds even where memory was refused halfway
+pub record IsInside (o : Inside) : Type 0 where
+  pub limits : IsWithinLimits o.roster
+  pub member : IsTrue (is_replica o.roster o.me)
+  pub members : o.local.slots.members ≡ size_of o.roster o.me.cluster
+  pub places : length o.local.prepared ≡ length o.local.slots.slots
+  pub clients : length o.local.last ≡ length o.roster.homes
+
+-- the same replica, with this state
+abbrev pub moved : Inside → Local → Inside
+moved o local = record { roster = o.roster; me = o.me; local = local }
+
+-- the same replica of the same members, whatever became of its state
+abbrev pub IsSame : Inside → Inside → Type 0
+IsSame old new = (new.roster ≡ old.roster) × (new.me ≡ old.me)

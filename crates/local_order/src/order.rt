@@ -1,0 +1,135 @@
+//! The ordering in a cluster, and the calls on it.
+ghost use Rattle.std.specs.Prelude.{◌≡◌, ◌+◌, false, true, length, IfOk, OnOk, OnErr, IsTrue};
+ghost use Rattle.fab_rules.specs.Shape.{IsShaped, is_batch_of};
+ghost use Rattle.fab_machine.specs.Proposing.{propose};
+ghost use Rattle.fab_machine.specs.Serving.{served};
+ghost use Rattle.fab_machine.specs.Step.{hear, can_propose};
+ghost use Rattle.local_order.specs.Ordering.{with_local, IsShut};
+
+use crate::NoMemory;
+use crate::local::Local;
+use crate::state::State;
+use crate::trying::LocalTry;
+use fab_base::{Batch, Message, Outcomes};
+use std::marker::Model;
+
+/// The ordering in the cluster of one replica (PBFT). Contracts see the members, the replica, its state, and whether it was shut: where
+/// memory is refused in the middle of a call, what was heard may be counted and what follows from it not done, so from then on each call
+/// that could change something answers `NoMemory`.
+#[derive(Debug, Drop)]
+pub struct Order {
+    state: State,
+    shut: bool,
+}
+
+impl Model for Order {
+    ghost use Rattle.local_order.specs.Ordering.{Ordering, IsOrdering};
+
+    ghost Value = { Ordering };
+
+    ghost view = { λ o. record { roster = o.state.roster; me = o.state.me; local = o.state.local; shut = o.shut } };
+
+    ghost invariant = { λ o. IsOrdering (record { roster = o.state.roster; me = o.state.me; local = o.state.local; shut = o.shut }) };
+}
+
+impl Order {
+    /// Hears a message that is shaped for these members. The answer is [`Heard`](fab_base::Answer::Heard) with what came of it; a kind of
+    /// which nothing is done here is `Stray`. It fails only where memory is refused now or was before, and then the order is shut.
+    pub fn hear(&mut self, message: Message) -> Result<Local, NoMemory>
+        requires { IsShaped self.old.roster message }
+        ensures answer { IfOk result (λ told. told.answer ≡ (hear self.old.roster self.old.me self.old.local message).answer) }
+        ensures outs { IfOk result (λ told. told.outs ≡ (hear self.old.roster self.old.me self.old.local message).outs) }
+        ensures state { OnOk result (self.new ≡ with_local self.old (hear self.old.roster self.old.me self.old.local message).local) }
+        ensures open { OnOk result (self.old.shut ≡ false) }
+        ensures err { OnErr result (IsShut self.old self.new) }
+    {
+        if self.shut {
+            return Err(NoMemory);
+        }
+        self.shut = true;
+        let told = self.state.hear(message)?;
+        self.shut = false;
+        Ok(told)
+    }
+
+    /// Proposes the next batch, where this replica is the primary and a batch is due: a full one; or any, where another cluster's
+    /// certificate of the round is known; or one that isn't empty, where the replica is nudged. The answer is the first of these that
+    /// holds: `Changing`, `NotPrimary`, `WindowFull`, `Proposed`, `Waiting`; all but `Proposed` change nothing. It fails only where memory
+    /// is refused now or was before, and then the order is shut.
+    pub fn propose(&mut self, nudged: bool, known: bool) -> Result<Local, NoMemory>
+        ensures answer { IfOk result (λ told. told.answer ≡ (propose self.old.roster self.old.me self.old.local nudged known).answer) }
+        ensures outs { IfOk result (λ told. told.outs ≡ (propose self.old.roster self.old.me self.old.local nudged known).outs) }
+        ensures state { OnOk result (self.new ≡ with_local self.old (propose self.old.roster self.old.me self.old.local nudged known).local) }
+        ensures open { OnOk result (self.old.shut ≡ false) }
+        ensures err { OnErr result (IsShut self.old self.new) }
+    {
+        if self.shut {
+            return Err(NoMemory);
+        }
+        self.shut = true;
+        let told = self.state.propose(nudged, known)?;
+        self.shut = false;
+        Ok(told)
+    }
+
+    /// Is told of an executed round, with the batch of the own cluster and its outcomes, as many as requests: from then on a request waits
+    /// only where its stamp is above the last one of its client that took effect, and batches up to the round are no longer in work. The
+    /// clients of the batch are clients of the fabric. It takes no memory, and fails only where the order is shut.
+    pub fn served(
+        &mut self,
+        round: u64,
+        batch: &Batch,
+        outcomes: &Outcomes,
+    ) -> Result<(), NoMemory>
+        requires { IsTrue (list_all (λ x. nat_lt x.client.number (length self.old.roster.homes)) batch.now) }
+        ensures state { OnOk result (self.new ≡ with_local self.old (served self.old.local round batch.now outcomes.now)) }
+        ensures open { IsTrue (is_ok result) ↔ (self.old.shut ≡ false) }
+        ensures err { OnErr result (self.new ≡ self.old) }
+    {
+        if self.shut {
+            return Err(NoMemory);
+        }
+        self.state.served(round, batch, outcomes);
+        Ok(())
+    }
+
+    /// Whether the call would do anything: true exactly where it would answer `Proposed`, want of memory aside, and never of an order that
+    /// is shut. Takes no memory.
+    pub fn can(&self, what: LocalTry) -> bool
+        ensures { result ≡ can_by self.now what }
+    {
+        match what {
+            LocalTry::Propose { nudged, known } => {
+                !self.shut && self.state.can_propose(nudged, known)
+            }
+        }
+    }
+
+    /// The entered view, from 0.
+    pub fn view(&self) -> u64
+        ensures { result ≡ self.now.local.view }
+    {
+        self.state.view
+    }
+
+    /// The view that was asked for and isn't entered: `None` exactly where there is none.
+    pub fn changing(&self) -> Option<u64>
+        ensures { result ≡ self.now.local.changing }
+    {
+        self.state.changing
+    }
+
+    /// The next slot to propose, from 1.
+    pub fn next(&self) -> u64
+        ensures { result ≡ self.now.local.next }
+    {
+        self.state.next
+    }
+
+    /// The low mark: the slots up to it are over.
+    pub fn low(&self) -> u64
+        ensures { result ≡ self.now.local.slots.low }
+    {
+        self.state.slots.low()
+    }
+}
