@@ -116,3 +116,30 @@ pub kept_fits : (z clients : ℕ) (certificates : List CommitCert) (round cluste
     → certificate_for certificates round cluster ≡ Some k → batch_fits k.batch ≡ true
 kept_fits z clients certificates round cluster k all e =
     (sound_one z clients k (each_passes (is_keepable z clients) certificates k all (is_for certificates round cluster k e).inside)).0
+
+-- ---- which is the first
+
+pub missing_begin : (certificates : List CommitCert) (round n : ℕ) → missing_of (blocks_from certificates round 1 (n - 0)) ≡ missing_of (blocks_from certificates round 1 n)
+missing_begin certificates round n =
+    let e : n - 0 ≡ n = omega arith in
+    ap (λ m. missing_of (blocks_from certificates round 1 m)) e
+
+pub missing_step : (certificates : List CommitCert) (round n i : ℕ) (k : CommitCert) (whole : Option ℕ) → i < n → certificate_for certificates round (i + 1) ≡ Some k
+    → missing_of (blocks_from certificates round (i + 1) (n - i)) ≡ whole → missing_of (blocks_from certificates round (i + 1 + 1) (n - (i + 1))) ≡ whole
+missing_step certificates round n i k whole l found h =
+    let rest = blocks_from certificates round (i + 1 + 1) (n - (i + 1)) in
+    missing_behind round (i + 1) k rest
+    ∙ (ap (λ o. missing_of (with_block o round (i + 1) rest)) (sym found)
+    ∙ (ap (λ m. missing_of (blocks_from certificates round (i + 1) m)) (sym (one_less n i l)) ∙ h))
+
+pub missing_here : (certificates : List CommitCert) (round n i : ℕ) (whole : Option ℕ) → i < n → certificate_for certificates round (i + 1) ≡ None
+    → missing_of (blocks_from certificates round (i + 1) (n - i)) ≡ whole → Some (i + 1) ≡ whole
+missing_here certificates round n i whole l none h =
+    let rest = blocks_from certificates round (i + 1 + 1) (n - (i + 1)) in
+    ap (λ o. missing_of (with_block o round (i + 1) rest)) (sym none)
+    ∙ (ap (λ m. missing_of (blocks_from certificates round (i + 1) m)) (sym (one_less n i l)) ∙ h)
+
+pub missing_end : (certificates : List CommitCert) (round n : ℕ) (whole : Option ℕ) → missing_of (blocks_from certificates round (n + 1) (n - n)) ≡ whole → None ≡ whole
+missing_end certificates round n whole h =
+    let e : n - n ≡ 0 = omega arith in
+    ap (λ m. missing_of (blocks_from certificates round (n + 1) m)) (sym e) ∙ h

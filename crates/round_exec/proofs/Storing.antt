@@ -4,6 +4,7 @@ use Rattle.std.specs.List.{slice_get}
 use Rattle.std.proofs.Math.Nat.{suc-mul, mul-le-mul_right}
 use Rattle.std.proofs.lemmas.Bool.{cases_lt}
 use Rattle.std.proofs.lemmas.List.{map-append, take-append-le, take_all, take_rest}
+use Rattle.std.proofs.lemmas.List.Elements.{All-append}
 use Rattle.std.proofs.Math.Seq.{drop-append_seam}
 use Rattle.fab_base.specs.Table.{State, empty_state}
 use Rattle.fab_base.specs.declared.ids.Hash32.{Hash32}
@@ -12,7 +13,7 @@ use Rattle.fab_rules.specs.declared.blocks.Block.{Block}
 use Rattle.fab_rules.specs.Ledger.{chain_start, chain_from, chain_of, run_from, state_after_blocks}
 use Rattle.fab_rules.proofs.Chains.{chain_from-append, state_after_blocks-append, run_from-append}
 use Rattle.seq_table.specs.Holding.{Holding, state_of}
-use Rattle.round_exec.specs.Done.{IsStored, AreChains, outcomes_in}
+use Rattle.round_exec.specs.Done.{IsStored, AreChains, AreSound, outcomes_in}
 
 -- ---- the chains
 
@@ -77,8 +78,8 @@ size_more z (suc n) blocks more b w m =
 pub stored_more : (z clients : ℕ) (blocks more : List Block) (outcomes outcomes_now : List (List Outcome)) (chains chains_now : List Hash32) (table table_now : Holding)
     → IsStored z clients blocks outcomes chains table → length more ≡ z → outcomes_now ≡ outcomes ++ outcomes_in (state_of table) more
     → chains_now ≡ chains ++ chain_from (chain_of blocks) more ∷ [] → state_of table_now ≡ state_after_blocks (state_of table) more
-    → length table_now.stamps ≡ length table.stamps → IsStored z clients (blocks ++ more) outcomes_now chains_now table_now
-stored_more z clients blocks more outcomes outcomes_now chains chains_now table table_now s m o c t n =
+    → length table_now.stamps ≡ length table.stamps → AreSound clients more → IsStored z clients (blocks ++ more) outcomes_now chains_now table_now
+stored_more z clients blocks more outcomes outcomes_now chains chains_now table table_now s m o c t n sound =
     let last = chain_from (chain_of blocks) more in
     let count : length chains_now ≡ length chains + 1 = ap length c ∙ length-append chains (last ∷ []) in
     let back : length chains_now - 1 ≡ length chains = omega (arith, count) in
@@ -91,4 +92,5 @@ stored_more z clients blocks more outcomes outcomes_now chains chains_now table 
       chains_are = subst (λ l. AreChains z (blocks ++ more) l) (sym c) (chains_more z blocks more chains s.begun s.whole m s.chains_are);
       state_is = t ∙ (ap (λ x. state_after_blocks x more) s.state_is ∙ sym (state_after_blocks-append (empty_state clients) blocks more));
       clients_are = n ∙ s.clients_are;
+      sound = All-append _ blocks more s.sound sound;
     }

@@ -1,19 +1,20 @@
 //! The rounds that a replica keeps and executes.
-ghost use Rattle.std.specs.Prelude.{◌≡◌, ◌+◌, length, IfOk, OnOk, OnErr, IsTrue};
-ghost use Rattle.std.specs.Option.{option_copied};
-ghost use Rattle.fab_machine.specs.Rounds.{certificate_for, keep_answer, keep, next_round, after_round, chain};
+ghost use Rattle.std.specs.Prelude.{◌≡◌, ◌+◌, length, IfSome, IfOk, OnOk, OnErr, IsTrue};
+ghost use Rattle.std.specs.Option.{option_copied, option_map};
+ghost use Rattle.fab_machine.specs.Rounds.{certificate_for, knows_others, keep_answer, keep, next_round, after_round, ran_block, outcomes_at, chain, chain_at};
+ghost use Rattle.fab_rules.specs.Format.{batch_fits};
 ghost use Rattle.fab_machine.specs.State.{fresh_rounds};
-ghost use Rattle.round_exec.specs.Book.{is_keepable, with_rounds};
+ghost use Rattle.round_exec.specs.Book.{are_clients, is_keepable, with_rounds, missing_of};
 ghost use Rattle.round_exec.specs.Running.{ran_of};
 ghost use Rattle.round_exec.specs.Done.{AreWhole};
 
 use crate::NoMemory;
 use crate::certificates::{Certificates, round_of};
 use crate::executed::Executed;
-use crate::gathering::gather;
+use crate::gathering::{first_missing, gather, knows_others};
 use crate::ran::Ran;
-use fab_base::{CommitCert, Hash32, Take};
-use fab_rules::Blocks;
+use fab_base::{CommitCert, Hash32, Outcomes, Take};
+use fab_rules::{Block, Blocks};
 use msg_spell::batch_digest;
 use std::alloc::Global;
 use std::marker::Model;
@@ -105,6 +106,21 @@ impl Rounds {
         )
     }
 
+    /// The first cluster without a certificate of the next round: `None` exactly where `execute` would execute it, want of memory aside.
+    /// Takes no memory.
+    pub fn missing(&self) -> Option<u8>
+        ensures { result ≡ missing_of (next_round self.now.clusters self.now.rounds) }
+    {
+        first_missing(&self.certificates, self.done.next(), self.done.clusters())
+    }
+
+    /// Whether a certificate of another cluster than this one is kept for the round. Takes no memory.
+    pub fn knows_others(&self, own: u8, round: u64) -> bool
+        ensures { result ≡ knows_others own self.now.rounds.certificates round }
+    {
+        knows_others(&self.certificates, own, round, self.done.clusters())
+    }
+
     /// The blocks of all executed rounds, the oldest first.
     pub fn ledger(&self) -> &Blocks
         ensures { result.now ≡ self.now.rounds.blocks }
@@ -124,6 +140,28 @@ impl Rounds {
         ensures { result ≡ chain self.now.rounds }
     {
         self.done.chain()
+    }
+
+    /// The chain of the ledger after this many rounds: `None` exactly where fewer were executed.
+    pub fn chain_at(&self, round: u64) -> Option<Hash32>
+        ensures { result ≡ chain_at self.now.clusters self.now.rounds round }
+    {
+        self.done.chain_at(round)
+    }
+
+    /// The block of a round and cluster: `None` exactly where the round wasn't executed or there is no such cluster.
+    pub fn block(&self, round: u64, cluster: u8) -> Option<&Block>
+        ensures is { option_copied result ≡ option_map (λ ran. ran.block) (ran_block self.now.clusters self.now.clients self.now.rounds round cluster) }
+        ensures sound { IfSome result (λ block. IsTrue (batch_fits block.now.batch) × IsTrue (are_clients self.now.clients block.now.batch)) }
+    {
+        self.done.block(round, cluster)
+    }
+
+    /// What the requests of a block came to, one outcome each in their order: `None` exactly where there is no such block.
+    pub fn outcomes(&self, round: u64, cluster: u8) -> Option<&Outcomes>
+        ensures { option_copied result ≡ outcomes_at self.now.clusters self.now.clients self.now.rounds round cluster }
+    {
+        self.done.outcomes(round, cluster)
     }
 
     /// The kept certificate of a round and cluster. `None` comes exactly where none is kept.

@@ -1,13 +1,16 @@
 //! What was executed: the ledger, and beside it what its blocks came to.
-ghost use Rattle.std.specs.Prelude.{◌≡◌, ◌+◌, ◌*◌, [], length, take, nat_le, if◌then◌else◌, Some, None, IfOk, OnOk, OnErr};
-ghost use Rattle.std.specs.Option.{option_copied};
+ghost use Rattle.std.specs.Prelude.{◌≡◌, ◌+◌, ◌<◌, [], length, IfSome, IfOk, OnOk, OnErr, IsTrue};
+ghost use Rattle.std.specs.Option.{option_copied, option_map};
+ghost use Rattle.fab_rules.specs.Format.{batch_fits};
 ghost use Rattle.fab_rules.specs.Ledger.{chain_of};
-ghost use Rattle.round_exec.specs.Done.{with_blocks, AreSound};
+ghost use Rattle.fab_machine.specs.Rounds.{ran_block, outcomes_at, chain_at};
+ghost use Rattle.round_exec.specs.Book.{are_clients};
+ghost use Rattle.round_exec.specs.Done.{rounds_of, place_at, with_blocks, AreSound};
 
 use crate::NoMemory;
 use crate::applying::{apply_all, chain_after, reserve_all};
 use fab_base::{Hash32, Outcomes};
-use fab_rules::Blocks;
+use fab_rules::{Block, Blocks};
 use seq_table::{Table, table};
 use std::alloc::Global;
 use std::marker::Model;
@@ -85,6 +88,45 @@ impl Executed {
         ensures { result ≡ chain_of self.now.blocks }
     {
         self.chains[self.chains.len() - 1]
+    }
+
+    /// The chain after this many rounds, `None` exactly where fewer were executed.
+    pub(crate) fn chain_at(&self, round: u64) -> Option<Hash32>
+        ensures { result ≡ chain_at self.now.clusters (rounds_of self.now) round }
+    {
+        if round < self.next() {
+            Some(self.chains[round as usize])
+        } else {
+            None
+        }
+    }
+
+    /// The block of a round and cluster, `None` exactly where there is none.
+    pub(crate) fn block(&self, round: u64, cluster: u8) -> Option<&Block>
+        ensures is { option_copied result ≡ option_map (λ ran. ran.block) (ran_block self.now.clusters self.now.clients (rounds_of self.now) round cluster) }
+        ensures sound { IfSome result (λ block. IsTrue (batch_fits block.now.batch) × IsTrue (are_clients self.now.clients block.now.batch)) }
+    {
+        self.blocks.get(self.place_of(round, cluster)?)
+    }
+
+    /// What its requests came to, `None` exactly where there is no such block.
+    pub(crate) fn outcomes(&self, round: u64, cluster: u8) -> Option<&Outcomes>
+        ensures { option_copied result ≡ outcomes_at self.now.clusters self.now.clients (rounds_of self.now) round cluster }
+    {
+        self.outcomes.get(self.place_of(round, cluster)?)
+    }
+
+    /// The place of a block in the ledger, `None` exactly where there is none.
+    fn place_of(&self, round: u64, cluster: u8) -> Option<usize>
+        ensures is { result ≡ place_at self.now round cluster }
+        ensures within { IfSome result (λ place. place < length self.now.blocks) }
+    {
+        let past = 1 <= round && round < self.next();
+        if past && 1 <= cluster && cluster <= self.clusters {
+            Some((round - 1) as usize * usize::from(self.clusters) + usize::from(cluster) - 1)
+        } else {
+            None
+        }
     }
 
     /// Executes a round: its blocks, one of each cluster. Where memory is refused, nothing changes that a contract sees.

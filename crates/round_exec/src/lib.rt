@@ -4,7 +4,9 @@
 //! - [`Rounds::keep`] takes a certificate. Of each round and cluster the first stays, and its answer says what became of a later one.
 //! - [`Rounds::execute`] executes the next round where no certificate is missing: a block of each cluster, in their order, is applied to
 //!   the sequential table and joins the ledger. Call it until it answers [`Ran::NotYet`], which names the first cluster that is missing.
-//! - [`Rounds::ledger`], [`Rounds::executed`], [`Rounds::chain`] and [`Rounds::cert`] read, and take no memory.
+//! - [`Rounds::missing`] and [`Rounds::knows_others`] tell what is there of a round; [`Rounds::cert`] gives a certificate.
+//! - [`Rounds::ledger`], [`Rounds::executed`], [`Rounds::block`], [`Rounds::outcomes`], [`Rounds::chain`] and [`Rounds::chain_at`] read
+//!   what was executed. None of the calls that only read takes memory, or longer for a longer ledger.
 //!
 //! All memory of a round is taken before anything changes, so that a round is executed whole or not at all.
 //!

@@ -1,0 +1,41 @@
+//! What local ordering brings about is taken over: items join the outbox, certificates are kept.
+ghost use Rattle.std.specs.Prelude.{◌≡◌, OnOk};
+ghost use Rattle.fab_base.specs.declared.messages.CommitCert.{CommitCert};
+ghost use Rattle.fab_rules.specs.Lists.{In};
+ghost use Rattle.fab_machine.specs.ReplicaState.{IsKeptCertificate};
+ghost use Rattle.fab_machine.specs.Step.{after_out, after_outs};
+ghost use Rattle.fab_machine.specs.declared.outs.Out.{Out};
+ghost use Rattle.replica_core.specs.Parts.{IsSame, with_state};
+
+use crate::NoMemory;
+use crate::parts::Parts;
+use fab_machine::{Out, Outs};
+
+impl Parts {
+    /// Takes one over.
+    fn take_one(&mut self, out: Out) -> Result<(), NoMemory>
+        requires { (k : CommitCert) → out ≡ Out.Certified k → IsKeptCertificate self.old.roster k }
+        ensures state { OnOk result (self.new ≡ with_state self.old (after_out self.old.state out)) }
+        ensures same { IsSame self.old self.new }
+    {
+        match out {
+            Out::Put(item) => self.outbox.push_back(item)?,
+            Out::Certified(cert) => {
+                self.rounds.keep(cert)?;
+            }
+        }
+        Ok(())
+    }
+
+    /// Takes all of them over, in order.
+    pub(crate) fn take(&mut self, outs: Outs) -> Result<(), NoMemory>
+        requires { (k : CommitCert) → In (Out.Certified k) outs → IsKeptCertificate self.old.roster k }
+        ensures state { OnOk result (self.new ≡ with_state self.old (after_outs self.old.state outs)) }
+        ensures same { IsSame self.old self.new }
+    {
+        for out in outs.into_vec() {
+            self.take_one(out)?;
+        }
+        Ok(())
+    }
+}
