@@ -4,6 +4,7 @@ use Rattle.std.specs.Bool.{IsTrue}
 use Rattle.std.specs.List.{filter, range_with_len}
 use Rattle.std.proofs.lemmas.Bool.Decides.{nat_tests}
 use Rattle.std.proofs.lemmas.List.{length-take}
+use Rattle.fab_base.specs.declared.limits.TheConstants.{GREATEST_NUMBER}
 use Rattle.fab_base.specs.Limits.{Roster}
 use Rattle.fab_base.specs.Quorums.{quorum_size}
 use Rattle.fab_base.specs.declared.ids.ReplicaId.{ReplicaId}
@@ -28,6 +29,7 @@ use Rattle.fab_machine.specs.Items.{member_of}
 use Rattle.fab_machine.specs.Voting.{batch_or_null, prepared_certificate, commit_certificate}
 use Rattle.fab_machine.specs.Rounds.{slot_of, round_of, IsCertificate}
 use Rattle.fab_machine.specs.LocalState.{IsKeptVote, IsLocalState}
+use Rattle.fab_machine.specs.ReplicaState.{IsKeptCertificate}
 use Rattle.fab_machine.specs.Relation.{IsBatchKnown, AreHeard, IsReported, IsBacked}
 use Rattle.fab_machine.proofs.Lists.{in_take}
 use Rattle.fab_machine.proofs.Members.{IsMember}
@@ -194,10 +196,11 @@ certificate_reported r me l full slot d is heard prepared =
 
 -- ---- the certificate of a committed slot
 
--- it is one that may be kept
+-- it is one, for its slot, and of clients whose home is here
 record IsFormed (r : Roster) (me : ReplicaId) (l : Local) (slot : ℕ) (d : Hash32) : Type 0 where
   round_is : round_of (commit_certificate me l slot d) ≡ slot
   certificate : IsCertificate (length r.sizes) (commit_certificate me l slot d)
+  homes : IsTrue (is_batch_of r me.cluster (commit_certificate me l slot d).batch)
 
 certificate_formed : (r : Roster) (me : ReplicaId) (l : Local) (slot : ℕ) (d : Hash32) → IsMember r me → IsLocalState r me l
     → committed_at l.slots slot ≡ Some d → IsFormed r me l slot d
@@ -224,11 +227,15 @@ certificate_formed r me l slot d member is committed =
         agree = λ v h. (let f = votes_for v h in (f.slot_is ∙ sym round_is, f.digest_is ∙ b.digest_is));
         fits = ap batch_fits b.batch_is ∙ b.held.fits;
       };
+      homes = subst (λ x. IsTrue (is_batch_of r me.cluster x)) (sym b.batch_is) b.held.homes;
     }
 
+-- so it may be kept, where its slot is within the limits
 pub certificate_may : (r : Roster) (me : ReplicaId) (l : Local) (slot : ℕ) (d : Hash32) → IsMember r me → IsLocalState r me l
-    → committed_at l.slots slot ≡ Some d → IsCertificate (length r.sizes) (commit_certificate me l slot d)
-certificate_may r me l slot d member is committed = (certificate_formed r me l slot d member is committed).certificate
+    → slot ≤ GREATEST_NUMBER → committed_at l.slots slot ≡ Some d → IsKeptCertificate r (commit_certificate me l slot d)
+certificate_may r me l slot d member is low_enough committed =
+    let formed = certificate_formed r me l slot d member is committed in
+    record { certificate = formed.certificate; round_upto = omega (arith, formed.round_is, low_enough); homes = formed.homes }
 
 -- a Commit that was heard as a message of its own is a heard statement
 as_statements : (r : Roster) (full : List Entry) (cluster view slot : ℕ) (d : Hash32)
@@ -259,5 +266,5 @@ certificate_backed r me l full slot d member is heard committed =
       committed = subst (λ j. QuorumHeard r (CommitHeard full) me.cluster l.view j (batch_digest (batch_or_null (batch_at w slot)))) (sym formed.round_is)
           (subst (λ e. QuorumHeard r (CommitHeard full) me.cluster l.view slot e) b.digest_is (as_statements r full me.cluster l.view slot d quorum));
       known = subst (IsBatchKnown full) (sym b.batch_is) (heard.proposals slot b.proposal b.there);
-      homes = subst (λ x. IsTrue (is_batch_of r me.cluster x)) (sym b.batch_is) b.held.homes;
+      homes = formed.homes;
     }

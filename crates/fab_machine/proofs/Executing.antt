@@ -1,5 +1,5 @@
 -- Execute keeps the relation: the blocks of the round may be done, its note may be said, and local ordering is told of it.
-use Rattle.std.proofs.Common.{◌≡◌, ℕ, ◌+◌, ◌-◌, ◌*◌, ◌≤◌, true, cond, ◌&&◌, nat_le, List, [], ◌∷◌, ◌++◌, length, Option, Some, None, Result, Ok, Err, inl, inr, refl, sym, ap, subst, ◌∙◌, arith, length-append}
+use Rattle.std.proofs.Common.{◌≡◌, ℕ, ◌+◌, ◌-◌, ◌*◌, ◌≤◌, true, cond, List, [], ◌∷◌, ◌++◌, length, Option, Some, None, Result, Ok, Err, inl, inr, refl, sym, ap, subst, ◌∙◌, arith, length-append}
 use Rattle.std.specs.Prelude.{drop}
 use Rattle.std.specs.List.{slice_get}
 use Rattle.std.proofs.Math.Seq.{drop-append_seam, drop-length}
@@ -13,7 +13,6 @@ use Rattle.fab_base.specs.declared.ids.ReplicaId.{ReplicaId}
 use Rattle.fab_base.specs.declared.requests.Request.{Request}
 use Rattle.fab_base.specs.declared.messages.CommitCert.{CommitCert}
 use Rattle.fab_base.specs.declared.messages.Message.{Message}
-use Rattle.fab_base.proofs.Tests.{and_both, is_at_most}
 use Rattle.fab_rules.specs.declared.blocks.Block.{Block}
 use Rattle.fab_rules.specs.Lists.{In}
 use Rattle.fab_rules.specs.Digests.{batch_digest}
@@ -29,14 +28,14 @@ use Rattle.fab_rules.proofs.Fitting.{few_requests, each_request_fits}
 use Rattle.fab_machine.specs.State.{Local, Replica, wanted}
 use Rattle.fab_machine.specs.Items.{statements_by, statements_in}
 use Rattle.fab_machine.specs.Serving.{stamps_after, still_waiting, still_proposed, served}
-use Rattle.fab_machine.specs.Rounds.{round_of, next_round, with_round, has_block, place_of}
+use Rattle.fab_machine.specs.Rounds.{round_of, next_round, with_round}
 use Rattle.fab_machine.specs.Step.{Event, note_of, note_item, after_noting, own_block, execute_step}
 use Rattle.fab_machine.specs.Diaries.{diary_did, diary_after}
 use Rattle.fab_machine.specs.Relation.{IsBatchKnown, AreLocal, IsBacked, full_of, AreFacts, AreRelated}
-use Rattle.fab_machine.proofs.Lists.{in_at, get_behind}
+use Rattle.fab_machine.proofs.Lists.{in_at}
 use Rattle.fab_machine.proofs.Members.{IsMember}
 use Rattle.fab_rules.proofs.Saying.{heard_before, still_heard, ledger-after_saying, after_saying-both}
-use Rattle.fab_rules.proofs.Chains.{state_after_blocks-append, run_at, run_there, run_behind}
+use Rattle.fab_rules.proofs.Chains.{state_after_blocks-append, run_behind}
 use Rattle.fab_machine.proofs.Shaped.{commit_slot, shaped_batch_fits}
 use Rattle.fab_machine.proofs.Shaping.{shaped_note}
 use Rattle.fab_machine.proofs.Values.{run_fits}
@@ -47,6 +46,7 @@ use Rattle.fab_machine.proofs.Telling.{own}
 use Rattle.fab_machine.proofs.Stepping.{put_last, wait_more}
 use Rattle.fab_machine.proofs.Blocks.{AreBlocks, block_at, some_certificate, blocks_done, grown_by_blocks, ledger-diary_did, heard_before_blocks, block_known}
 use Rattle.fab_machine.proofs.Stamps.{round_stamps}
+use Rattle.fab_machine.proofs.Ran.{one_more, own_ran}
 
 -- ---- the blocks are done
 
@@ -59,9 +59,6 @@ record IsRun (r : Roster) (me : ReplicaId) (s : Replica) (blocks : List Block) (
   whole : length (s.rounds.blocks ++ blocks) ≡ (s.rounds.executed + 1) * length r.sizes
   count : length blocks ≡ length r.sizes
   are : AreBlocks r (s.rounds.executed + 1) 1 blocks
-
-one_more : (e z a b c : ℕ) → c ≡ a + b → a ≡ e * z → b ≡ z → c ≡ (e + 1) * z
-one_more e z a b c f g h = grind arith
 
 round_done : (r : Roster) (me : ReplicaId) (s : Replica) (diary : List Entry) (blocks : List Block) → next_round (length r.sizes) s.rounds ≡ Ok blocks
     → AreRelated r me s diary → IsRun r me s blocks (full_of me s (diary_did diary blocks))
@@ -102,45 +99,19 @@ record IsOwn (r : Roster) (me : ReplicaId) (s : Replica) (blocks : List Block) :
   cluster_is : ran.block.cluster ≡ me.cluster
   inside : In ran.block (s.rounds.blocks ++ blocks)
 
-own_found : (r : Roster) (me : ReplicaId) (s : Replica) (blocks : List Block) (ran : RunBlock) → IsMember r me
-    → slice_get (run r (s.rounds.blocks ++ blocks)) (place_of (length r.sizes) (s.rounds.executed + 1) me.cluster) ≡ Some ran
-    → own_block r me (with_round s.rounds blocks) ≡ Some ran
-own_found r me s blocks ran is at =
-    let e = s.rounds.executed + 1 in
-    let z = length r.sizes in
-    let rounds = with_round s.rounds blocks in
-    let there : has_block z rounds e me.cluster ≡ true =
-    and_both (nat_le 1 e && nat_le e e) _ (and_both (nat_le 1 e) _ (is_at_most 1 e (omega arith)) (is_at_most e e (omega arith)))
-    (and_both (nat_le 1 me.cluster) _ (is_at_most 1 me.cluster is.from) (is_at_most me.cluster z is.upto)) in
-    ap (λ b. cond b (slice_get (run r rounds.blocks) (place_of z e me.cluster)) None) there ∙ at
-
 own_there : (r : Roster) (me : ReplicaId) (s : Replica) (blocks : List Block) (full : List Entry) → IsMember r me → IsRun r me s blocks full
     → length s.rounds.blocks ≡ s.rounds.executed * length r.sizes → IsOwn r me s blocks
 own_there r me s blocks full is done before =
-    let e = s.rounds.executed in
-    let z = length r.sizes in
-    let i = me.cluster - 1 in
-    let all = s.rounds.blocks ++ blocks in
-    let here = length s.rounds.blocks + i in
-    let b = block_at r (e + 1) 1 blocks i done.are (omega (arith, done.count, is.from, is.upto)) in
-    let there : slice_get all here ≡ Some b.block = get_behind s.rounds.blocks blocks i ∙ b.at in
-    let x = run_there (start_of r) all here b.block there in
-    let same : b.block ≡ x.0.block = same_block b.block x.0.block (sym there ∙ run_at (start_of r) all here x.0 x.1) in
-    let place : here ≡ place_of z (e + 1) me.cluster = omega (arith, before, ap (λ n. n * z) (one_back e)) in
+    let b = block_at r (s.rounds.executed + 1) 1 blocks (me.cluster - 1) done.are (omega (arith, done.count, is.from, is.upto)) in
+    let x = own_ran r me s blocks b.block is before b.at in
     record {
-      ran = x.0;
-      found = own_found r me s blocks x.0 is (subst (λ p. slice_get (run r all) p ≡ Some x.0) place x.1);
-      at = x.1;
-      round_is = ap (λ y. y.round) (sym same) ∙ b.is.round_is;
-      cluster_is = ap (λ y. y.cluster) (sym same) ∙ (b.is.cluster_is ∙ omega (arith, is.from));
-      inside = subst (λ y. In y all) same (in_at all here b.block there);
+      ran = x.ran;
+      found = x.found;
+      at = x.at;
+      round_is = ap (λ y. y.round) (sym x.block_is) ∙ b.is.round_is;
+      cluster_is = ap (λ y. y.cluster) (sym x.block_is) ∙ (b.is.cluster_is ∙ omega (arith, is.from));
+      inside = x.inside;
     }
-  where
-    same_block : (x y : Block) → Some x ≡ Some y → x ≡ y
-    same_block x y q = cc
-
-    one_back : (e : ℕ) → e + 1 - 1 ≡ e
-    one_back e = omega arith
 
 -- ---- the note is shaped
 

@@ -33,10 +33,10 @@ use Rattle.fab_machine.proofs.Members.{IsMember}
 use Rattle.fab_machine.proofs.Shaped.{prepare_slot, commit_slot, proposal_slot}
 use Rattle.fab_machine.proofs.Windows.{later_by_proposal, later_by_prepare, later_by_commit, prepare_heard, commit_heard, proposal_heard, proposal_after_prepare, proposal_after_commit, commit_after_prepare, prepare_after_commit, prepare_after_proposal, commit_after_proposal}
 use Rattle.fab_machine.proofs.Waiting.{in_answered}
-use Rattle.fab_machine.proofs.States.{IsForView, for_view, prepare_counted, commit_counted, proposal_counted, prepare_state, commit_state, proposal_state, request_state}
+use Rattle.fab_machine.proofs.States.{counted_still, IsForView, for_view, prepare_counted, commit_counted, proposal_counted, prepare_state, commit_state, proposal_state, request_state}
 use Rattle.fab_machine.proofs.Locals.{local_beside, local_later}
 use Rattle.fab_machine.proofs.Putting.{prepare_may, prepare_noted}
-use Rattle.fab_machine.proofs.Telling.{IsToldOf, told_nothing, unmoved_told, own, calm_view, told_put, told_counted, counted_still}
+use Rattle.fab_machine.proofs.Telling.{IsToldOf, told_nothing, unmoved_told, own, calm_view, told_put, told_counted}
 
 -- ---- a message that isn't counted
 

@@ -12,6 +12,7 @@ pub mod Waiting
 pub mod Locals
 pub mod Quorums
 pub mod Certificates
+pub mod Made
 pub mod States
 pub mod Putting
 pub mod Telling
@@ -21,6 +22,8 @@ pub mod Stepping
 pub mod Keeping
 pub mod Blocks
 pub mod Stamps
+pub mod Ran
 pub mod Executing
 pub mod Starting
 pub mod Steps
+pub mod ReplicaStates

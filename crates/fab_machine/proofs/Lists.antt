@@ -16,6 +16,12 @@ in_at [] i x h = cc
 in_at (y ∷ xs) zero x h = inl cc
 in_at (y ∷ xs) (suc i) x h = inr (in_at xs i x h)
 
+-- a place where it stands
+pub in_place : {X : Type 0} (xs : List X) (x : X) → In x xs → (i : ℕ) × (i < length xs) × (slice_get xs i ≡ Some x)
+in_place [] x h = absurd h
+in_place (y ∷ xs) x (inl e) = (0, omega arith, ap Some e)
+in_place (y ∷ xs) x (inr h) = let p = in_place xs x h in (suc p.0, omega (arith, p.1), p.2)
+
 -- ---- place by place
 
 pub get_behind : {X : Type 0} (xs ys : List X) (i : ℕ) → slice_get (xs ++ ys) (length xs + i) ≡ slice_get ys i

@@ -1,7 +1,6 @@
 -- Batch and Nudge keep the relation of local ordering.
 use Rattle.std.proofs.Common.{◌≡◌, ℕ, ◌+◌, ◌%◌, ◌<◌, ◌≤◌, Bool, true, false, not, cond, nat_lt, ◌||◌, List, [], ◌∷◌, ◌++◌, length, take, Option, Some, None, ◌⊎◌, inl, inr, refl, arith}
 use Rattle.std.specs.Bool.{IsTrue}
-use Rattle.std.proofs.lemmas.Bool.Decides.{nat_tests}
 use Rattle.std.proofs.lemmas.List.{length-take}
 use Rattle.fab_base.specs.declared.limits.TheConstants.{GREATEST_NUMBER, MOST_REQUESTS}
 use Rattle.fab_base.specs.Limits.{Roster}
@@ -23,6 +22,7 @@ use Rattle.fab_machine.specs.Relation.{AreLocal}
 use Rattle.fab_machine.proofs.Members.{IsMember}
 use Rattle.fab_machine.proofs.Shaping.{shaped_proposal}
 use Rattle.fab_machine.proofs.Waiting.{eligible_waits}
+use Rattle.fab_machine.proofs.States.{room_for}
 use Rattle.fab_machine.proofs.Locals.{local_beside, local_said, proposal_quotes}
 use Rattle.fab_machine.proofs.Putting.{not_left}
 use Rattle.fab_machine.proofs.Telling.{IsToldOf, unmoved_told, told_nothing, own, calm_view, told_put}
@@ -59,13 +59,6 @@ proposed_keeps r me l batch full rules are calm primary shaped heard =
       still = record { wanted_is = refl; executed_is = refl; last_is = refl };
     }
 
-or_right : (a b : Bool) → (a || b) ≡ false → b ≡ false
-or_right true b h = cc
-or_right false b h = h
-
-at_most_it : (a b : ℕ) → nat_lt a b ≡ false → b ≤ a
-at_most_it a b h = grind (arith, nat_tests)
-
 pub propose_keeps : (r : Roster) (me : ReplicaId) (l : Local) (nudged known : Bool) (full : List Entry) → IsMember r me → KeepsRules r me full
     → AreLocal r me l full → IsToldOf r me l (propose r me l nudged known) full
 propose_keeps r me l nudged known full is rules are = by l.changing refl
@@ -81,7 +74,7 @@ propose_keeps r me l nudged known full is rules are = by l.changing refl
     open_for calm true false false p q = unmoved_by (Answer.Waiting (length (eligible l)))
     open_for calm true false true p q =
         let batch = take r.batch (eligible l) in
-        let low_enough = at_most_it GREATEST_NUMBER l.next (or_right (nat_lt (high l.slots) l.next) (nat_lt GREATEST_NUMBER l.next) q) in
+        let low_enough = room_for l q in
         let few : length batch ≤ MOST_REQUESTS = omega (arith, is.small, length-take r.batch (eligible l)) in
         let heard = λ (x : Request) (h : In x batch). are.heard.requests x (eligible_waits l r.batch x h) in
         let shaped = shaped_proposal r me l.view l.next batch is are.is.view_fits are.is.next_from low_enough p few

@@ -12,7 +12,7 @@ use Rattle.fab_base.specs.declared.requests.Request.{Request}
 use Rattle.fab_base.specs.declared.messages.Message.{Message}
 use Rattle.fab_base.proofs.Tests.{and_both, is_at_most, is_below, are_same}
 use Rattle.fab_rules.specs.Lists.{In}
-use Rattle.fab_rules.specs.Format.{is_u64, id_fits, digest_fits, signature_fits, request_fits, batch_fits, vote_fits, proposal_fits, line_fits, lines_fit, note_fits}
+use Rattle.fab_rules.specs.Format.{is_u64, id_fits, digest_fits, request_fits, batch_fits, vote_fits, proposal_fits, line_fits, lines_fit, note_fits}
 use Rattle.fab_rules.specs.Format as format
 use Rattle.fab_rules.specs.Shape.{is_view, is_slot, is_vote, is_batch_of, is_primary, is_proposal, IsShaped}
 use Rattle.fab_rules.specs.Ledger.{RunBlock, lines_with, lines_of}
@@ -39,7 +39,7 @@ alone r m p plain (inr none) = absurd none
 
 -- ---- votes
 
-put_vote_fits : (r : Roster) (me : ReplicaId) (view slot : ℕ) (d : Hash32) → IsMember r me → view ≤ GREATEST_NUMBER → slot ≤ GREATEST_NUMBER
+pub put_vote_fits : (r : Roster) (me : ReplicaId) (view slot : ℕ) (d : Hash32) → IsMember r me → view ≤ GREATEST_NUMBER → slot ≤ GREATEST_NUMBER
     → digest_fits d ≡ true → vote_fits (vote_of me view slot d) ≡ true
 put_vote_fits r me view slot d is v t digest =
     and_both (id_fits me) _ is.fits (and_both (is_u64 view) _ (wide_enough view v) (and_both (is_u64 slot) _ (wide_enough slot t) (and_both (digest_fits d) _ digest refl)))
@@ -66,8 +66,18 @@ shaped_commit r me view slot d is v s t digest =
       fitting = nothing_wrong r m (λ p h. alone r m p (record { known = is.known; keeps = put_vote_is me view slot d v s t; plain = λ j. refl }) h);
     }
 
--- ---- a proposal of shaped requests of the own cluster
+-- ---- a proposal
 
+-- of requests that fit, within the limits
+pub put_proposal_fits : (r : Roster) (me : ReplicaId) (view slot : ℕ) (batch : List Request) → IsMember r me → view ≤ GREATEST_NUMBER
+    → slot ≤ GREATEST_NUMBER → length batch ≤ MOST_REQUESTS → ((x : Request) → In x batch → request_fits x ≡ true)
+    → proposal_fits (proposal_of me view slot batch) ≡ true
+put_proposal_fits r me view slot batch is v t few each =
+    let batch_is : batch_fits batch ≡ true =
+    and_both (format.at_most MOST_REQUESTS batch) (list_all request_fits batch) (is_at_most (length batch) MOST_REQUESTS few) (all_pass request_fits batch each) in
+    and_both (id_fits me) _ is.fits (and_both (is_u64 view) _ (wide_enough view v) (and_both (is_u64 slot) _ (wide_enough slot t) (and_both (batch_fits batch) _ batch_is refl)))
+
+-- of shaped requests of the own cluster
 pub shaped_proposal : (r : Roster) (me : ReplicaId) (view slot : ℕ) (batch : List Request) → IsMember r me → view ≤ GREATEST_NUMBER
     → 1 ≤ slot → slot ≤ GREATEST_NUMBER → IsTrue (is_primary r me.cluster view me.index) → length batch ≤ MOST_REQUESTS
     → ((x : Request) → In x batch → IsShaped r (Message.Request x)) → ((x : Request) → In x batch → home_of r x.client ≡ me.cluster)
@@ -75,11 +85,7 @@ pub shaped_proposal : (r : Roster) (me : ReplicaId) (view slot : ℕ) (batch : L
 shaped_proposal r me view slot batch is v s t primary few shaped homes =
     let p = proposal_of me view slot batch in
     let m = Message.PrePrepare p in
-    let batch_is : batch_fits batch ≡ true =
-    and_both (format.at_most MOST_REQUESTS batch) (list_all request_fits batch) (is_at_most (length batch) MOST_REQUESTS few)
-    (all_pass request_fits batch (λ x h. shaped_request_fits r x (shaped x h))) in
-    let fit : proposal_fits p ≡ true =
-    and_both (id_fits me) _ is.fits (and_both (is_u64 view) _ (wide_enough view v) (and_both (is_u64 slot) _ (wide_enough slot t) (and_both (batch_fits batch) _ batch_is refl))) in
+    let fit = put_proposal_fits r me view slot batch is v t few (λ x h. shaped_request_fits r x (shaped x h)) in
     let from : is_batch_of r me.cluster batch ≡ true =
     all_pass (λ x. nat_eq (home_of r x.client) me.cluster) batch (λ x h. are_same (home_of r x.client) me.cluster (homes x h)) in
     let keeps : is_proposal r p ≡ true =

@@ -1,4 +1,4 @@
--- What a state of local ordering keeps by itself, it keeps through every call; and each certificate that is formed is one.
+-- What a state of local ordering keeps by itself, it keeps through every call; and what a call brings about is as it should be.
 use Rattle.std.proofs.Common.{◌≡◌, ℕ, ◌+◌, ◌%◌, ◌<◌, ◌≤◌, Bool, true, false, not, cond, nat_le, nat_lt, nat_eq, ◌||◌, List, [], ◌∷◌, ◌++◌, length, take, Option, Some, None, Result, Ok, Err, inl, inr, refl, sym, ap, subst, ◌∙◌, arith}
 use Rattle.std.proofs.lemmas.Bool.Decides.{nat_tests}
 use Rattle.std.proofs.lemmas.List.{length-set}
@@ -15,7 +15,6 @@ use Rattle.fab_base.specs.declared.messages.PreparedCert.{PreparedCert}
 use Rattle.fab_base.specs.declared.messages.CommitCert.{CommitCert}
 use Rattle.fab_base.specs.declared.messages.Message.{Message}
 use Rattle.fab_base.specs.declared.answers.Answer.{Answer}
-use Rattle.fab_base.specs.declared.answers.Item.{Item}
 use Rattle.fab_base.specs.declared.answers.Take.{Take}
 use Rattle.fab_base.proofs.Tests.{same}
 use Rattle.fab_rules.specs.Lists.{In}
@@ -23,21 +22,20 @@ use Rattle.fab_rules.specs.Digests.{batch_digest}
 use Rattle.fab_rules.specs.Shape.{is_batch_of, is_primary, IsShaped}
 use Rattle.pbft_slots.specs.declared.slot.Proposal.{Proposal}
 use Rattle.pbft_slots.specs.Ballots.{Counted}
-use Rattle.pbft_slots.specs.Window.{Window, high, refusal_by, place_in, pre_prepare_answer, prepare_answer, commit_answer, after_pre_prepare, after_prepare, after_commit, committed_at}
+use Rattle.pbft_slots.specs.Window.{Window, high, refusal_by, place_in, pre_prepare_answer, prepare_answer, commit_answer, after_pre_prepare, after_prepare, after_commit}
 use Rattle.fab_machine.specs.State.{Proposed, Local, wanted, wanted_by}
-use Rattle.fab_machine.specs.Voting.{Told, unmoved, with_certificate, prepared_certificate, newly, keep_prepared, commit_outs, certified_outs, newly_prepared, newly_committed, after_count, outs_after, vote_refusal, kept_by, refused, proposal_told, prepare_told, commit_told, proposal_by, prepare_by, commit_by}
+use Rattle.fab_machine.specs.Voting.{Told, unmoved, with_certificate, prepared_certificate, keep_prepared, newly_prepared, after_count, outs_after, vote_refusal, kept_by, refused, proposal_told, prepare_told, commit_told, proposal_by, prepare_by, commit_by}
 use Rattle.fab_machine.specs.Requests.{request_answer, waiting_by}
 use Rattle.fab_machine.specs.Proposing.{eligible, proposed, is_due, propose_in, propose}
 use Rattle.fab_machine.specs.Serving.{stamps_after, still_waiting, still_proposed, served}
-use Rattle.fab_machine.specs.Rounds.{IsCertificate}
 use Rattle.fab_machine.specs.Step.{hear}
 use Rattle.fab_machine.specs.LocalState.{IsHeldBatch, IsKeptVote, AreHeld, AreWaiting, IsLocalState}
 use Rattle.fab_machine.specs.declared.outs.Out.{Out}
 use Rattle.fab_machine.proofs.Members.{IsMember}
-use Rattle.fab_machine.proofs.Shaped.{proposal_homes, shaped_proposal_fits, shaped_request_fits}
+use Rattle.fab_machine.proofs.Shaped.{prepare_slot, commit_slot, proposal_slot, proposal_homes, shaped_proposal_fits, shaped_request_fits}
 use Rattle.fab_machine.proofs.Windows.{IsLater, later_by_proposal, later_by_prepare, later_by_commit, IsThisVote, prepare_heard, commit_heard, proposal_heard, proposal_after_prepare, proposal_after_commit, commit_after_prepare, prepare_after_commit, prepare_after_proposal, commit_after_proposal}
 use Rattle.fab_machine.proofs.Waiting.{waiting_filtered, waiting_answered}
-use Rattle.fab_machine.proofs.Certificates.{certificate_may}
+use Rattle.fab_machine.proofs.Made.{AreMade, none_made, put_is_not_certified, counted_made, prepare_made, proposed_made}
 
 -- ---- a change beside the view, its slots and its certificates
 
@@ -193,14 +191,6 @@ proposal_state r me l p fine is for =
 
 -- ---- and what newly holds
 
-pub record IsNewly (before now : Option Hash32) (d : Hash32) : Type 0 where
-  pub before_is : before ≡ None
-  pub now_is : now ≡ Some d
-
-pub is_newly : (before now : Option Hash32) (d : Hash32) → newly before now ≡ Some d → IsNewly before now d
-is_newly None now d h = record { before_is = refl; now_is = h }
-is_newly (Some b) now d h = cc
-
 counted_state : (r : Roster) (me : ReplicaId) (l : Local) (now : Window Vote) (slot : ℕ) → IsLocalState r me (record l { slots = now })
     → IsLocalState r me (after_count l now slot)
 counted_state r me l now slot is = go (newly_prepared l now slot)
@@ -209,92 +199,85 @@ counted_state r me l now slot is = go (newly_prepared l now slot)
     go None = is
     go (Some d) = state_kept r me (record l { slots = now }) slot (prepared_certificate (record l { slots = now }) slot d) is
 
--- ---- the certificates that are formed
+-- what stays: the view that is wanted, the executed rounds and the last stamps
+pub record IsStill (old now : Local) : Type 0 where
+  pub wanted_is : wanted now ≡ wanted old
+  pub executed_is : now.executed ≡ old.executed
+  pub last_is : now.last ≡ old.last
 
-abbrev pub AreCertificates : ℕ → List Out → Type 0
-AreCertificates clusters outs = (k : CommitCert) → In (Out.Certified k) outs → IsCertificate clusters k
-
-put_is_not_certified : (item : Item) (k : CommitCert) → Out.Put item ≡ Out.Certified k → ⊥
-put_is_not_certified item k e = cc
-
-same_certified : (x y : CommitCert) → Out.Certified x ≡ Out.Certified y → x ≡ y
-same_certified x y e = cc
-
-put_certifies_nothing : (clusters : ℕ) (item : Item) (rest : List Out) → AreCertificates clusters rest → AreCertificates clusters (Out.Put item ∷ rest)
-put_certifies_nothing clusters item rest are k (inl e) = absurd (put_is_not_certified item k e)
-put_certifies_nothing clusters item rest are k (inr h) = are k h
-
-outs_certified : (r : Roster) (me : ReplicaId) (l : Local) (now : Window Vote) (slot : ℕ) → IsMember r me → IsLocalState r me (record l { slots = now })
-    → AreCertificates (length r.sizes) (outs_after r me l now slot)
-outs_certified r me l now slot member is k h =
-    go (newly_prepared l now slot) (newly_committed l now slot) refl h
+pub counted_still : (l : Local) (now : Window Vote) (slot : ℕ) → IsStill l (after_count l now slot)
+counted_still l now slot = go (newly_prepared l now slot)
   where
-    formed : (n : Option Hash32) → newly_committed l now slot ≡ n → In (Out.Certified k) (certified_outs me (record l { slots = now }) slot n)
-        → IsCertificate (length r.sizes) k
-    formed None e q = absurd q
-    formed (Some d) e (inl same_out) =
-        subst (IsCertificate (length r.sizes)) (same_certified _ k same_out)
-        (certificate_may r me (record l { slots = now }) slot d member is (is_newly (committed_at l.slots slot) (committed_at now slot) d e).now_is)
-    formed (Some d) e (inr none) = absurd none
-
-    go : (m n : Option Hash32) → newly_committed l now slot ≡ n
-        → In (Out.Certified k) (commit_outs r me l.view slot m ++ certified_outs me (record l { slots = now }) slot n) → IsCertificate (length r.sizes) k
-    go None n e q = formed n e q
-    go (Some d) n e (inl put) = absurd (put_is_not_certified _ k put)
-    go (Some d) n e (inr q) = formed n e q
+    go : (n : Option Hash32) → IsStill l (keep_prepared (record l { slots = now }) slot n)
+    go None = record { wanted_is = refl; executed_is = refl; last_is = refl }
+    go (Some d) = record { wanted_is = refl; executed_is = refl; last_is = refl }
 
 -- ---- what came of a call
 
-pub record IsToldState (r : Roster) (me : ReplicaId) (t : Told) : Type 0 where
+pub record IsToldState (r : Roster) (me : ReplicaId) (old : Local) (t : Told) : Type 0 where
   pub is : IsLocalState r me t.local
-  pub certified : AreCertificates (length r.sizes) t.outs
+  pub still : IsStill old t.local
+  pub made : AreMade r t.outs
 
-unmoved_state : (r : Roster) (me : ReplicaId) (l : Local) (a : Answer) → IsLocalState r me l → IsToldState r me (unmoved l a)
-unmoved_state r me l a is = record { is = is; certified = λ k h. absurd h }
+unmoved_state : (r : Roster) (me : ReplicaId) (l : Local) (a : Answer) → IsLocalState r me l → IsToldState r me l (unmoved l a)
+unmoved_state r me l a is = record { is = is; still = record { wanted_is = refl; executed_is = refl; last_is = refl }; made = none_made r }
 
-refused_state : (r : Roster) (me : ReplicaId) (l : Local) (m : Message) (how : Take) → IsLocalState r me l → IsToldState r me (refused l m how)
+refused_state : (r : Roster) (me : ReplicaId) (l : Local) (m : Message) (how : Take) → IsLocalState r me l → IsToldState r me l (refused l m how)
 refused_state r me l m how is = record {
   is = state_beside r me l l.next l.proposed l.waiting l.last l.executed (kept_by how l.kept m) (omega arith) is.waiting is;
-  certified = λ k h. absurd h;
+  still = record { wanted_is = refl; executed_is = refl; last_is = refl };
+  made = none_made r;
 }
 
 hear_proposal_state : (r : Roster) (me : ReplicaId) (l : Local) (p : PrePrepare) → IsMember r me → IsShaped r (Message.PrePrepare p) → IsLocalState r me l
-    → (o : Option Take) → vote_refusal me l p.signer.cluster p.view p.slot ≡ o → IsToldState r me (proposal_by r me l p o)
+    → (o : Option Take) → vote_refusal me l p.signer.cluster p.view p.slot ≡ o → IsToldState r me l (proposal_by r me l p o)
 hear_proposal_state r me l p member fine is (Some how) e = refused_state r me l (Message.PrePrepare p) how is
 hear_proposal_state r me l p member fine is None e = go (pre_prepare_answer l.slots p.slot (batch_digest p.batch))
   where
     now : IsLocalState r me (record l { slots = proposal_counted l p })
     now = proposal_state r me l p fine is (for_view me l p.signer.cluster p.view p.slot is.wants e)
 
-    go : (how : Take) → IsToldState r me (proposal_told r me l p how)
-    go Take.Taken = record {
-      is = counted_state r me l (proposal_counted l p) p.slot now;
-      certified = put_certifies_nothing (length r.sizes) _ _ (outs_certified r me l (proposal_counted l p) p.slot member now);
-    }
+    go : (how : Take) → IsToldState r me l (proposal_told r me l p how)
+    go Take.Taken =
+        let low_enough = proposal_slot r p fine in
+        let counted = counted_made r me l (proposal_counted l p) p.slot member now low_enough in
+        record {
+          is = counted_state r me l (proposal_counted l p) p.slot now;
+          still = counted_still l (proposal_counted l p) p.slot;
+          made = prepare_made r me l p.slot p.batch (outs_after r me l (proposal_counted l p) p.slot) member is low_enough counted;
+        }
     go how = unmoved_state r me l (Answer.Heard how) is
 
-hear_prepare_state : (r : Roster) (me : ReplicaId) (l : Local) (v : Vote) → IsMember r me → IsLocalState r me l
-    → (o : Option Take) → vote_refusal me l v.signer.cluster v.view v.slot ≡ o → IsToldState r me (prepare_by r me l v o)
-hear_prepare_state r me l v member is (Some how) e = refused_state r me l (Message.Prepare v) how is
-hear_prepare_state r me l v member is None e = go (prepare_answer l.slots v.signer.index v.slot v.digest)
+hear_prepare_state : (r : Roster) (me : ReplicaId) (l : Local) (v : Vote) → IsMember r me → IsShaped r (Message.Prepare v) → IsLocalState r me l
+    → (o : Option Take) → vote_refusal me l v.signer.cluster v.view v.slot ≡ o → IsToldState r me l (prepare_by r me l v o)
+hear_prepare_state r me l v member fine is (Some how) e = refused_state r me l (Message.Prepare v) how is
+hear_prepare_state r me l v member fine is None e = go (prepare_answer l.slots v.signer.index v.slot v.digest)
   where
     now : IsLocalState r me (record l { slots = prepare_counted l v })
     now = prepare_state r me l v is (for_view me l v.signer.cluster v.view v.slot is.wants e)
 
-    go : (how : Take) → IsToldState r me (prepare_told r me l v how)
-    go Take.Taken = record { is = counted_state r me l (prepare_counted l v) v.slot now; certified = outs_certified r me l (prepare_counted l v) v.slot member now }
+    go : (how : Take) → IsToldState r me l (prepare_told r me l v how)
+    go Take.Taken = record {
+      is = counted_state r me l (prepare_counted l v) v.slot now;
+      still = counted_still l (prepare_counted l v) v.slot;
+      made = counted_made r me l (prepare_counted l v) v.slot member now (prepare_slot r v fine);
+    }
     go how = unmoved_state r me l (Answer.Heard how) is
 
-hear_commit_state : (r : Roster) (me : ReplicaId) (l : Local) (v : Vote) → IsMember r me → IsLocalState r me l
-    → (o : Option Take) → vote_refusal me l v.signer.cluster v.view v.slot ≡ o → IsToldState r me (commit_by r me l v o)
-hear_commit_state r me l v member is (Some how) e = refused_state r me l (Message.Commit v) how is
-hear_commit_state r me l v member is None e = go (commit_answer l.slots v.signer.index v.slot v.digest)
+hear_commit_state : (r : Roster) (me : ReplicaId) (l : Local) (v : Vote) → IsMember r me → IsShaped r (Message.Commit v) → IsLocalState r me l
+    → (o : Option Take) → vote_refusal me l v.signer.cluster v.view v.slot ≡ o → IsToldState r me l (commit_by r me l v o)
+hear_commit_state r me l v member fine is (Some how) e = refused_state r me l (Message.Commit v) how is
+hear_commit_state r me l v member fine is None e = go (commit_answer l.slots v.signer.index v.slot v.digest)
   where
     now : IsLocalState r me (record l { slots = commit_counted l v })
     now = commit_state r me l v is (for_view me l v.signer.cluster v.view v.slot is.wants e)
 
-    go : (how : Take) → IsToldState r me (commit_told r me l v how)
-    go Take.Taken = record { is = counted_state r me l (commit_counted l v) v.slot now; certified = outs_certified r me l (commit_counted l v) v.slot member now }
+    go : (how : Take) → IsToldState r me l (commit_told r me l v how)
+    go Take.Taken = record {
+      is = counted_state r me l (commit_counted l v) v.slot now;
+      still = counted_still l (commit_counted l v) v.slot;
+      made = counted_made r me l (commit_counted l v) v.slot member now (commit_slot r (Message.Commit v) v fine (inl refl));
+    }
     go how = unmoved_state r me l (Answer.Heard how) is
 
 pub request_state : (r : Roster) (me : ReplicaId) (l : Local) (x : Request) → IsShaped r (Message.Request x) → IsLocalState r me l
@@ -303,41 +286,64 @@ request_state r me l x fine is =
     let now = waiting_by (request_answer r me l x) l.waiting x in
     state_beside r me l l.next l.proposed now l.last l.executed l.kept (omega arith) (waiting_answered r me l x (shaped_request_fits r x fine) is.waiting) is
 
-pub hear_state : (r : Roster) (me : ReplicaId) (l : Local) (m : Message) → IsMember r me → IsShaped r m → IsLocalState r me l → IsToldState r me (hear r me l m)
-hear_state r me l (Message.Request x) member fine is = record { is = request_state r me l x fine is; certified = λ k h. absurd h }
+pub hear_state : (r : Roster) (me : ReplicaId) (l : Local) (m : Message) → IsMember r me → IsShaped r m → IsLocalState r me l → IsToldState r me l (hear r me l m)
+hear_state r me l (Message.Request x) member fine is =
+    record { is = request_state r me l x fine is; still = record { wanted_is = refl; executed_is = refl; last_is = refl }; made = none_made r }
 hear_state r me l (Message.PrePrepare p) member fine is = hear_proposal_state r me l p member fine is (vote_refusal me l p.signer.cluster p.view p.slot) refl
-hear_state r me l (Message.Prepare v) member fine is = hear_prepare_state r me l v member is (vote_refusal me l v.signer.cluster v.view v.slot) refl
-hear_state r me l (Message.Commit v) member fine is = hear_commit_state r me l v member is (vote_refusal me l v.signer.cluster v.view v.slot) refl
+hear_state r me l (Message.Prepare v) member fine is = hear_prepare_state r me l v member fine is (vote_refusal me l v.signer.cluster v.view v.slot) refl
+hear_state r me l (Message.Commit v) member fine is = hear_commit_state r me l v member fine is (vote_refusal me l v.signer.cluster v.view v.slot) refl
 hear_state r me l m member fine is = unmoved_state r me l (Answer.Heard Take.Stray) is
 
 -- ---- Batch and Nudge
 
+-- there is a slot to propose for, so it is within the limits
+pub room_for : (l : Local) → (nat_lt (high l.slots) l.next || nat_lt GREATEST_NUMBER l.next) ≡ false → l.next ≤ GREATEST_NUMBER
+room_for l h = go (nat_lt (high l.slots) l.next) h
+  where
+    go : (b : Bool) → (b || nat_lt GREATEST_NUMBER l.next) ≡ false → l.next ≤ GREATEST_NUMBER
+    go true q = cc
+    go false q = at_least GREATEST_NUMBER l.next q
+
 -- a property of all that a proposal may come to
 module _ (P : Told → Type 0) (r : Roster) (me : ReplicaId) (l : Local) (nudged known : Bool) where
-  pub propose_cases : ((a : Answer) → P (unmoved l a)) → P (proposed r me l (take r.batch (eligible l))) → P (propose r me l nudged known)
+  pub propose_cases : ((a : Answer) → P (unmoved l a)) → (l.next ≤ GREATEST_NUMBER → P (proposed r me l (take r.batch (eligible l))))
+      → P (propose r me l nudged known)
   propose_cases still new = by l.changing
     where
-      open_for : (a b c : Bool) → P (cond (not a) (unmoved l (Answer.NotPrimary (l.view % size_of r me.cluster))) (cond b (unmoved l (Answer.WindowFull l.slots.low))
+      open_for : (a b c : Bool) → (nat_lt (high l.slots) l.next || nat_lt GREATEST_NUMBER l.next) ≡ b
+          → P (cond (not a) (unmoved l (Answer.NotPrimary (l.view % size_of r me.cluster))) (cond b (unmoved l (Answer.WindowFull l.slots.low))
           (cond c (proposed r me l (take r.batch (eligible l))) (unmoved l (Answer.Waiting (length (eligible l)))))))
-      open_for false b c = still (Answer.NotPrimary (l.view % size_of r me.cluster))
-      open_for true true c = still (Answer.WindowFull l.slots.low)
-      open_for true false false = still (Answer.Waiting (length (eligible l)))
-      open_for true false true = new
+      open_for false b c q = still (Answer.NotPrimary (l.view % size_of r me.cluster))
+      open_for true true c q = still (Answer.WindowFull l.slots.low)
+      open_for true false false q = still (Answer.Waiting (length (eligible l)))
+      open_for true false true q = new (room_for l q)
 
       by : (o : Option ℕ) → P (propose_in r me l nudged known o)
       by (Some asked) = still (Answer.Changing asked)
-      by None = open_for (is_primary r me.cluster l.view me.index) (nat_lt (high l.slots) l.next || nat_lt GREATEST_NUMBER l.next) (is_due r l nudged known)
+      by None = open_for (is_primary r me.cluster l.view me.index) (nat_lt (high l.slots) l.next || nat_lt GREATEST_NUMBER l.next) (is_due r l nudged known) refl
+
+proposed_state : (r : Roster) (me : ReplicaId) (l : Local) (batch : List Request) → IsLocalState r me l → IsLocalState r me (proposed r me l batch).local
+proposed_state r me l batch is =
+    let ps = l.proposed ++ record { slot = l.next; batch = batch } ∷ [] in
+    state_beside r me l (l.next + 1) ps l.waiting l.last l.executed l.kept (omega arith) is.waiting is
 
 pub propose_state : (r : Roster) (me : ReplicaId) (l : Local) (nudged known : Bool) → IsLocalState r me l → IsLocalState r me (propose r me l nudged known).local
 propose_state r me l nudged known is =
-    let ps = l.proposed ++ record { slot = l.next; batch = take r.batch (eligible l) } ∷ [] in
-    propose_cases (λ t. IsLocalState r me t.local) r me l nudged known (λ a. is)
-    (state_beside r me l (l.next + 1) ps l.waiting l.last l.executed l.kept (omega arith) is.waiting is)
+    propose_cases (λ t. IsLocalState r me t.local) r me l nudged known (λ a. is) (λ room. proposed_state r me l (take r.batch (eligible l)) is)
+
+pub propose_told_state : (r : Roster) (me : ReplicaId) (l : Local) (nudged known : Bool) → IsMember r me → IsLocalState r me l
+    → IsToldState r me l (propose r me l nudged known)
+propose_told_state r me l nudged known member is =
+    propose_cases (λ t. IsToldState r me l t) r me l nudged known (λ a. unmoved_state r me l a is) (λ room. record {
+      is = proposed_state r me l (take r.batch (eligible l)) is;
+      still = record { wanted_is = refl; executed_is = refl; last_is = refl };
+      made = proposed_made r me l member is room;
+    })
 
 pub propose_forms_none : (r : Roster) (me : ReplicaId) (l : Local) (nudged known : Bool) (k : CommitCert) → In (Out.Certified k) (propose r me l nudged known).outs → ⊥
 propose_forms_none r me l nudged known k =
     propose_cases (λ t. In (Out.Certified k) t.outs → ⊥) r me l nudged known (λ a h. h)
-    (λ h. elim h [ inl e ↦ put_is_not_certified _ k e | inr none ↦ none ])
+    (λ room h. elim h [ inl e ↦ put_is_not_certified _ k e | inr none ↦ none ])
 
 -- ---- an executed round
 

@@ -75,7 +75,7 @@ wait_more view items item old new x h =
 
 -- ---- a certificate is kept, or isn't
 
-kept_cases : (how : Take) (certificates : List CommitCert) (k c : CommitCert) → In c (kept_after how certificates k) → In c certificates ⊎ (k ≡ c)
+pub kept_cases : (how : Take) (certificates : List CommitCert) (k c : CommitCert) → In c (kept_after how certificates k) → In c certificates ⊎ (k ≡ c)
 kept_cases Take.Taken certificates k c h =
     elim (in_append_cases c certificates (k ∷ []) h) [ inl old ↦ inl old | inr (inl e) ↦ inr e | inr (inr none) ↦ absurd none ]
 kept_cases how certificates k c h = inl h

@@ -109,7 +109,7 @@ idle_propose : (r : Roster) (me : ReplicaId) (s : Replica) (nudged : Bool) → m
     → (propose_step r me s nudged).state ≡ s
 idle_propose r me s nudged h =
     propose_cases (λ t. makes_entry (after_told s t).answer ≡ false → (after_told s t).state ≡ s) r me s.local nudged
-    (knows_others me.cluster s.rounds.certificates s.local.next) (λ a q. refl) (λ q. cc) h
+    (knows_others me.cluster s.rounds.certificates s.local.next) (λ a q. refl) (λ room q. cc) h
 
 idle_emit : (me : ReplicaId) (s : Replica) (sig : List ℕ) (o : List Item) → makes_entry (emit_step me s sig o).answer ≡ false → (emit_step me s sig o).state ≡ s
 idle_emit me s sig [] h = refl

@@ -27,15 +27,10 @@ use Rattle.fab_machine.proofs.MoreHeard.{hears_later, heard_more}
 use Rattle.fab_machine.proofs.Quorums.{prepared_slot, open_slot}
 use Rattle.fab_machine.proofs.Putting.{commit_may, commit_noted}
 use Rattle.fab_machine.proofs.Certificates.{certificate_backed}
-use Rattle.fab_machine.proofs.States.{is_newly}
+use Rattle.fab_machine.proofs.Made.{put_is_not_certified, is_newly}
+use Rattle.fab_machine.proofs.States.{IsStill}
 
 -- ---- what came of an event in local ordering
-
--- what stays: the view that is wanted, the executed rounds and the last stamps
-pub record IsStill (old now : Local) : Type 0 where
-  pub wanted_is : wanted now ≡ wanted old
-  pub executed_is : now.executed ≡ old.executed
-  pub last_is : now.last ≡ old.last
 
 pub record IsToldOf (r : Roster) (me : ReplicaId) (old : Local) (t : Told) (full : List Entry) : Type 0 where
   pub told : IsTold r me t.local t.outs full
@@ -63,9 +58,6 @@ says_own me m full e = ap (λ b. after_saying full (cond b (unsigned m ∷ []) [
 
 same_put : (x y : Item) → Out.Put x ≡ Out.Put y → x ≡ y
 same_put x y e = cc
-
-put_is_not_certified : (item : Item) (k : CommitCert) → Out.Put item ≡ Out.Certified k → ⊥
-put_is_not_certified item k e = cc
 
 -- it is put first, and then the rest follows
 pub told_put : (r : Roster) (me : ReplicaId) (l : Local) (m : Message) (rest : List Out) (full : List Entry) → is_own me (signer_of m) ≡ true
@@ -135,10 +127,3 @@ told_counted r me l now slot full is calm low_enough low_is before rules are = g
         let told = told_certified r me at (keep_prepared at slot (Some d)) more slot (newly_committed l now slot) (may, rules) noted
         (λ c h. certificate_backed r me at more slot c is are.is heard (is_newly (committed_at l.slots slot) (committed_at now slot) c h).now_is) in
         told_put r me (keep_prepared at slot (Some d)) m (certified_outs me at slot (newly_committed l now slot)) full (own me) (calm_view l calm) told
-
-pub counted_still : (l : Local) (now : Window Vote) (slot : ℕ) → IsStill l (after_count l now slot)
-counted_still l now slot = go (newly_prepared l now slot)
-  where
-    go : (n : Option Hash32) → IsStill l (keep_prepared (record l { slots = now }) slot n)
-    go None = record { wanted_is = refl; executed_is = refl; last_is = refl }
-    go (Some d) = record { wanted_is = refl; executed_is = refl; last_is = refl }

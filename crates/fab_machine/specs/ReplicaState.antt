@@ -1,5 +1,5 @@
 -- What the state of a replica keeps by itself, whatever it heard: the invariant of its type.
-use Rattle.std.specs.Prelude.{◌≡◌, ℕ, ◌*◌, ◌≤◌, true, List, length, IsTrue}
+use Rattle.std.specs.Prelude.{◌≡◌, ◌*◌, ◌≤◌, true, length, IsTrue}
 use Rattle.fab_base.specs.declared.limits.TheConstants.{GREATEST_NUMBER}
 use Rattle.fab_base.specs.Limits.{Roster}
 use Rattle.fab_base.specs.declared.ids.ReplicaId.{ReplicaId}
