@@ -1,7 +1,8 @@
 -- The blocks of a round, gathered one after another from certificates that may be kept.
-use Rattle.std.proofs.Common.{◌≡◌, ℕ, zero, suc, ◌+◌, ◌-◌, ◌<◌, Bool, true, ◌&&◌, nat_le, List, [], ◌∷◌, ◌++◌, length, Option, Some, None, Result, Ok, Err, refl, sym, ap, subst, ◌∙◌, append_assoc, arith}
+use Rattle.std.proofs.Common.{◌≡◌, ℕ, zero, suc, ◌+◌, ◌-◌, ◌<◌, true, ◌&&◌, nat_le, List, [], ◌∷◌, ◌++◌, Option, Some, None, Bor, Result, Ok, Err, refl, sym, ap, subst, ◌∙◌, append_assoc, arith}
 use Rattle.std.proofs.lemmas.List.{append-nil}
 use Rattle.std.specs.Prelude.{IfOk}
+use Rattle.std.specs.Option.{option_copied, is_some}
 use Rattle.std.specs.List.{list_all}
 use Rattle.fab_base.specs.declared.messages.CommitCert.{CommitCert}
 use Rattle.fab_base.proofs.Tests.{and_left, and_right}
@@ -143,3 +144,9 @@ pub missing_end : (certificates : List CommitCert) (round n : ℕ) (whole : Opti
 missing_end certificates round n whole h =
     let e : n - n ≡ 0 = omega arith in
     ap (λ m. missing_of (blocks_from certificates round (n + 1) m)) (sym e) ∙ h
+
+pub missing_more : (certificates : List CommitCert) (round n i : ℕ) (r : Option (Bor CommitCert)) (whole : Option ℕ) → i < n
+    → option_copied r ≡ certificate_for certificates round (i + 1) → is_some r ≡ true
+    → missing_of (blocks_from certificates round (i + 1) (n - i)) ≡ whole → missing_of (blocks_from certificates round (i + 1 + 1) (n - (i + 1))) ≡ whole
+missing_more certificates round n i None whole l e s h = cc
+missing_more certificates round n i (Some k) whole l e s h = missing_step certificates round n i k.now whole l (sym e) h

@@ -1,6 +1,7 @@
 -- Whether another cluster's certificate is kept: asked of each cluster in turn.
-use Rattle.std.proofs.Common.{◌≡◌, ◌≢◌, ℕ, ◌+◌, ◌≤◌, Bool, true, false, not, ◌&&◌, ◌||◌, nat_eq, nat_le, List, [], ◌∷◌, Option, Some, None, inl, inr, refl, sym, ap, subst, ◌∙◌, arith}
+use Rattle.std.proofs.Common.{◌≡◌, ◌≢◌, ℕ, ◌+◌, ◌≤◌, Bool, true, false, not, ◌&&◌, ◌||◌, nat_eq, nat_le, List, [], ◌∷◌, Option, Some, None, Bor, ◌⊎◌, inl, inr, refl, sym, ap, ◌∙◌, arith}
 use Rattle.std.specs.List.{filter, list_all, list_any}
+use Rattle.std.specs.Option.{option_copied, is_some}
 use Rattle.std.proofs.lemmas.Bool.{cases_eq}
 use Rattle.fab_base.specs.declared.messages.CommitCert.{CommitCert}
 use Rattle.fab_base.proofs.Tests.{and_left, and_right, and_both, at_most, same, is_same, are_same}
@@ -86,3 +87,9 @@ none_known own round clusters clients certificates all none = none_in (is_other 
             let here = in_filter (is_of round k.cluster) k certificates h
             (and_both (nat_eq (round_of k) round) (nat_eq k.cluster k.cluster) (and_left (nat_eq (round_of k) round) (not (nat_eq k.cluster own)) e) (is_same k.cluster)) in
             absurd (none_first (filter (is_of round k.cluster) certificates) k (none k.cluster from upto other) here)
+
+-- as it is looked up
+pub other_found : (own round cluster : ℕ) (certificates : List CommitCert) (r : Option (Bor CommitCert)) → (cluster ≡ own → ⊥)
+    → option_copied r ≡ certificate_for certificates round cluster → is_some r ≡ true → knows_others own certificates round ≡ true
+other_found own round cluster certificates None other e s = cc
+other_found own round cluster certificates (Some k) other e s = other_known own round cluster certificates k.now other (sym e)

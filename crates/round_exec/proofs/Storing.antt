@@ -10,6 +10,9 @@ use Rattle.fab_base.specs.Table.{State, empty_state}
 use Rattle.fab_base.specs.declared.ids.Hash32.{Hash32}
 use Rattle.fab_base.specs.declared.requests.Outcome.{Outcome}
 use Rattle.fab_rules.specs.declared.blocks.Block.{Block}
+use Rattle.std.specs.Bool.{IsTrue}
+use Rattle.fab_rules.specs.Format.{batch_fits}
+use Rattle.round_exec.specs.Book.{are_clients}
 use Rattle.fab_rules.specs.Ledger.{chain_start, chain_from, chain_of, run_from, state_after_blocks}
 use Rattle.fab_rules.proofs.Chains.{chain_from-append, state_after_blocks-append, run_from-append}
 use Rattle.seq_table.specs.Holding.{Holding, state_of}
@@ -92,5 +95,5 @@ stored_more z clients blocks more outcomes outcomes_now chains chains_now table 
       chains_are = subst (λ l. AreChains z (blocks ++ more) l) (sym c) (chains_more z blocks more chains s.begun s.whole m s.chains_are);
       state_is = t ∙ (ap (λ x. state_after_blocks x more) s.state_is ∙ sym (state_after_blocks-append (empty_state clients) blocks more));
       clients_are = n ∙ s.clients_are;
-      sound = All-append _ blocks more s.sound sound;
+      sound = All-append (λ x. IsTrue (batch_fits x.batch) × IsTrue (are_clients clients x.batch)) blocks more s.sound sound;
     }

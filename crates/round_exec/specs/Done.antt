@@ -1,6 +1,5 @@
 -- What was executed, and how it is stored beside the ledger: the outcomes of each block, the chain after each round, and the table.
-use Rattle.std.specs.Prelude.{◌≡◌, ℕ, ◌++◌, ◌+◌, ◌-◌, ◌*◌, ◌<◌, ◌≤◌, List, [], ◌∷◌, length, map, take, slice_get, IsTrue, All, if◌then◌else◌, Option, Some, None}
-use Rattle.std.specs.Map.{keys_of}
+use Rattle.std.specs.Prelude.{◌≡◌, ℕ, ◌++◌, ◌+◌, ◌-◌, ◌*◌, ◌<◌, ◌≤◌, List, [], length, map, take, slice_get, IsTrue, All, if◌then◌else◌, Option, Some, None}
 use Rattle.fab_base.specs.Table.{State, empty_state}
 use Rattle.fab_base.specs.declared.ids.Hash32.{Hash32}
 use Rattle.fab_base.specs.declared.requests.Outcome.{Outcome}

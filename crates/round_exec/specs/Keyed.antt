@@ -1,5 +1,5 @@
 -- How certificates are stored: each under its own round and cluster. No public contract cites it.
-use Rattle.std.specs.Prelude.{ℕ, ◌&&◌, Bool, nat_eq}
+use Rattle.std.specs.Prelude.{◌&&◌, Bool, nat_eq}
 use Rattle.fab_base.specs.declared.messages.CommitCert.{CommitCert}
 use Rattle.fab_machine.specs.Rounds.{round_of}
 use Rattle.round_exec.specs.declared.place.Place.{Place}

@@ -121,12 +121,15 @@ impl Executed {
         ensures is { result ≡ place_at self.now round cluster }
         ensures within { IfSome result (λ place. place < length self.now.blocks) }
     {
-        let past = 1 <= round && round < self.next();
-        if past && 1 <= cluster && cluster <= self.clusters {
-            Some((round - 1) as usize * usize::from(self.clusters) + usize::from(cluster) - 1)
-        } else {
-            None
+        let blocks = self.blocks.len();
+        let next = self.next();
+        if round == 0 || round >= next || cluster == 0 || cluster > self.clusters {
+            return None;
         }
+        let before = (round - 1) as usize * usize::from(self.clusters);
+        let place = before + usize::from(cluster - 1);
+        prove!(place < blocks);
+        Some(place)
     }
 
     /// Executes a round: its blocks, one of each cluster. Where memory is refused, nothing changes that a contract sees.

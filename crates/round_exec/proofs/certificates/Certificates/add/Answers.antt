@@ -1,11 +1,10 @@
-use Rattle.std.proofs.Common.{◌≡◌, ◌∙◌, List, [], ◌∷◌, ◌++◌, true, Result, Ok, Err, None, refl, sym, ap, subst}
+use Rattle.std.proofs.Common.{◌≡◌, ◌∙◌, List, [], ◌∷◌, ◌++◌, true, Result, Ok, Err, refl, sym, ap, subst}
 use Rattle.std.specs.Result.{OnOk, OnErr}
 use Rattle.std.specs.List.{list_all}
-use Rattle.std.specs.Map.{lookup, values_of}
-use Rattle.indexmap.specs.IndexMap.{insert_entry}
+use Rattle.std.specs.Map.{values_of}
 use Rattle.indexmap.proofs.CallerLemmas.{insert_entry-new}
 use Rattle.fab_base.specs.declared.messages.CommitCert.{CommitCert}
-use Rattle.fab_machine.specs.Rounds.{certificate_for, round_of}
+use Rattle.fab_machine.specs.Rounds.{certificate_for}
 use Rattle.round_exec.specs.Keyed.{is_keyed}
 use Rattle.round_exec.specs.declared.place.Place.{Place}
 use Rattle.round_exec.proofs.Finding.{lookup_finds, all_keyed-more, values_of-more, is_keyed-own}

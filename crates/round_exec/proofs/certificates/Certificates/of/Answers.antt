@@ -1,4 +1,4 @@
-use Rattle.std.proofs.Common.{◌≡◌, ◌∙◌, refl, sym, ap}
+use Rattle.std.proofs.Common.{◌∙◌, refl, ap}
 use Rattle.fab_machine.specs.Rounds.{certificate_for}
 use Rattle.round_exec.proofs.Finding.{lookup_finds}
 use Rattle.round_exec.proofs.certificates.Certificates.of.Goals as goal
