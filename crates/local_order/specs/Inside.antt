@@ -1,17 +1,18 @@
--- What the calls inside see: the same without the mark of a refusal.
+-- What the calls inside see of the ordering in a cluster: the same without the mark of a refusal.
 use Rattle.std.specs.Prelude.{◌≡◌, length, IsTrue}
 use Rattle.fab_base.specs.Limits.{Roster, IsWithinLimits}
 use Rattle.fab_base.specs.Roster.{is_replica, size_of}
 use Rattle.fab_base.specs.declared.ids.ReplicaId.{ReplicaId}
 use Rattle.fab_machine.specs.State.{Local}
 
-pub record Inside : Type 0 where
+-- the members, the replica that orders, and what it remembers
+pub record Member : Type 0 where
   pub roster : Roster
   pub me : ReplicaId
   pub local : Local
 
 -- what holds even where memory was refused halfway
-pub record IsInside (o : Inside) : Type 0 where
+pub record IsInside (o : Member) : Type 0 where
   pub limits : IsWithinLimits o.roster
   pub member : IsTrue (is_replica o.roster o.me)
   pub members : o.local.slots.members ≡ size_of o.roster o.me.cluster
@@ -19,9 +20,9 @@ pub record IsInside (o : Inside) : Type 0 where
   pub clients : length o.local.last ≡ length o.roster.homes
 
 -- the same replica, with this state
-abbrev pub moved : Inside → Local → Inside
+abbrev pub moved : Member → Local → Member
 moved o local = record { roster = o.roster; me = o.me; local = local }
 
 -- the same replica of the same members, whatever became of its state
-abbrev pub IsSame : Inside → Inside → Type 0
+abbrev pub IsSame : Member → Member → Type 0
 IsSame old new = (new.roster ≡ old.roster) × (new.me ≡ old.me)

@@ -1,12 +1,13 @@
 //! The making of an `Order`.
-ghost use Rattle.std.specs.Prelude.{◌≡◌, false, IfOk, IsTrue};
+ghost use Rattle.std.specs.Prelude.{◌≡◌, ◌≤◌, false, None, length, replicate, IfOk, IsTrue};
+ghost use Rattle.fab_base.specs.Limits.{IsWithinLimits};
 ghost use Rattle.fab_base.specs.Roster.{is_replica};
 ghost use Rattle.fab_machine.specs.State.{fresh_local};
 
 use crate::NoMemory;
-use crate::order::Order;
+use crate::ordering::Order;
 use crate::state::State;
-use fab_base::{ClientId, Members, ReplicaId, Rows, Who};
+use fab_base::{ClientId, MOST_CLIENTS, Members, PreparedCert, ReplicaId, Rows, Who};
 use pbft_slots::slots;
 use std::alloc::Global;
 
@@ -16,24 +17,21 @@ pub fn order(alloc: Global, members: Members, me: ReplicaId) -> Result<Order, No
     requires { IsTrue (is_replica members me) }
     ensures { IfOk result (λ made. made ≡ record { roster = members; me = me; local = fresh_local members me; shut = false }) }
 {
+    // The members are within the limits of a fabric.
+    let _ = members.clusters();
     let state = state(alloc, members, me)?;
     Ok(Order::new(state))
 }
 
 /// What a replica remembers at first.
 fn state(alloc: Global, members: Members, me: ReplicaId) -> Result<State, NoMemory>
-    requires { IsTrue (is_replica members me) }
+    requires limits { IsWithinLimits members }
+    requires member { IsTrue (is_replica members me) }
     ensures { IfOk result (λ made. made ≡ record { roster = members; me = me; local = fresh_local members me }) }
 {
     let slots = slots(alloc, members.size(me.cluster), members.window())?;
-    let mut prepared = Vec::with_capacity(alloc, usize::from(members.window()))?;
-    for _ in 0..members.window() {
-        prepared.push(None)?;
-    }
-    let mut last = Vec::new(alloc);
-    while members.has(client(last.len())) {
-        last.push(0)?;
-    }
+    let prepared = no_certificates(alloc, members.window())?;
+    let last = no_stamps(alloc, &members)?;
     Ok(State {
         members,
         me,
@@ -48,4 +46,29 @@ fn state(alloc: Global, members: Members, me: ReplicaId) -> Result<State, NoMemo
         executed: 0,
         kept: Rows::new(alloc),
     })
+}
+
+/// A place for the certificate of each slot, and none is kept.
+fn no_certificates(alloc: Global, window: u8) -> Result<Vec<Option<PreparedCert>>, NoMemory>
+    ensures { IfOk result (λ made. made.items ≡ replicate window None) }
+{
+    let mut prepared = Vec::with_capacity(alloc, usize::from(window))?;
+    for _ in 0..window {
+        prepared.push(None)?;
+    }
+    Ok(prepared)
+}
+
+/// A place for the last stamp of each client that took effect, and none did.
+fn no_stamps(alloc: Global, members: &Members) -> Result<Vec<u32>, NoMemory>
+    requires { length members.now.homes ≤ MOST_CLIENTS }
+    ensures { IfOk result (λ made. made.items ≡ replicate (length members.now.homes) 0) }
+{
+    let mut last = Vec::new(alloc);
+    for number in 0..MOST_CLIENTS {
+        if members.has(Who::Client(ClientId { number })) {
+            last.push(0)?;
+        }
+    }
+    Ok(last)
 }

@@ -43,9 +43,9 @@ pub(crate) struct State {
 }
 
 impl Model for State {
-    ghost use Rattle.local_order.specs.Inside.{Inside, IsInside};
+    ghost use Rattle.local_order.specs.Inside.{Member, IsInside};
 
-    ghost Value = { Inside };
+    ghost Value = { Member };
 
     ghost view = { λ o. record {
       roster = o.members;

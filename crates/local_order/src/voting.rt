@@ -1,6 +1,5 @@
 //! Proposals and votes (PBFT, section 4.2): what each is answered, and what it brings about.
 ghost use Rattle.std.specs.Prelude.{◌≡◌, ◌≤◌, ◌<◌, ◌++◌, Option, None, Some, IfOk, OnOk, IsTrue};
-ghost use Rattle.fab_base.specs.declared.answers.Answer.{Answer};
 ghost use Rattle.fab_base.specs.Quorums.{quorum_size};
 ghost use Rattle.fab_base.specs.Roster.{is_replica};
 ghost use Rattle.fab_rules.specs.Digests.{batch_digest};
@@ -118,7 +117,7 @@ impl State {
     /// Keeps the certificate of a slot.
     fn keep_prepared(&mut self, slot: u64, digest: Hash32) -> Result<(), NoMemory>
         requires { prepared_at self.old.local.slots slot ≡ Some digest }
-        ensures { OnOk result (self.new ≡ moved self.old (keep_prepared self.old.local slot (Some digest))) }
+        ensures kept { OnOk result (self.new ≡ moved self.old (keep_prepared self.old.local slot (Some digest))) }
         ensures same { IsSame self.old self.new }
     {
         let certificate = self.prepared_certificate(slot, digest)?;
@@ -189,7 +188,7 @@ impl State {
 
     /// The message isn't counted; where it is ahead or far it is kept.
     fn refuse(&mut self, message: Message, answer: Take) -> Result<Local, NoMemory>
-        ensures answer { IfOk result (λ told. told.answer ≡ Answer.Heard (refused self.old.local message answer).answer) }
+        ensures answer { IfOk result (λ told. told.answer ≡ (refused self.old.local message answer).answer) }
         ensures outs { IfOk result (λ told. told.outs ≡ (refused self.old.local message answer).outs) }
         ensures state { OnOk result (self.new ≡ moved self.old ((refused self.old.local message answer).local)) }
         ensures same { IsSame self.old self.new }
@@ -203,10 +202,27 @@ impl State {
         })
     }
 
+    /// What follows from a proposal or a vote that was counted for the slot, of which it was asked before whether it was prepared and
+    /// committed.
+    fn after_count(
+        &mut self,
+        slot: u64,
+        prepared: Option<Hash32>,
+        committed: Option<Hash32>,
+        outs: &mut Outs,
+    ) -> Result<(), NoMemory>
+        ensures state { OnOk result (self.new ≡ moved self.old (keep_prepared self.old.local slot (newly prepared (prepared_at self.old.local.slots slot)))) }
+        ensures outs { OnOk result (outs.new ≡ outs.old ++ (commit_outs self.old.roster self.old.me self.old.local.view slot (newly prepared (prepared_at self.old.local.slots slot)) ++ certified_outs self.old.me self.old.local slot (newly committed (committed_at self.old.local.slots slot)))) }
+        ensures same { IsSame self.old self.new }
+    {
+        self.after_prepared(slot, prepared, outs)?;
+        self.after_committed(slot, committed, outs)
+    }
+
     /// Counts a Prepare of the view, for an open slot.
     fn count_prepare(&mut self, vote: Vote) -> Result<Local, NoMemory>
         requires { vote.signer.index < self.old.local.slots.members }
-        ensures answer { IfOk result (λ told. told.answer ≡ Answer.Heard (prepare_by self.old.roster self.old.me self.old.local vote None).answer) }
+        ensures answer { IfOk result (λ told. told.answer ≡ (prepare_by self.old.roster self.old.me self.old.local vote None).answer) }
         ensures outs { IfOk result (λ told. told.outs ≡ (prepare_by self.old.roster self.old.me self.old.local vote None).outs) }
         ensures state { OnOk result (self.new ≡ moved self.old ((prepare_by self.old.roster self.old.me self.old.local vote None).local)) }
         ensures same { IsSame self.old self.new }
@@ -219,8 +235,7 @@ impl State {
             .slots
             .prepare(vote.signer.index, slot, vote.digest, vote);
         if answer == Take::Taken {
-            self.after_prepared(slot, prepared, &mut outs)?;
-            self.after_committed(slot, committed, &mut outs)?;
+            self.after_count(slot, prepared, committed, &mut outs)?;
         }
         Ok(Local {
             answer: Answer::Heard(answer),
@@ -231,7 +246,7 @@ impl State {
     /// Hears a Prepare of a member.
     pub(crate) fn hear_prepare(&mut self, vote: Vote) -> Result<Local, NoMemory>
         requires { IsTrue (is_replica self.old.roster vote.signer) }
-        ensures answer { IfOk result (λ told. told.answer ≡ Answer.Heard (hear_prepare self.old.roster self.old.me self.old.local vote).answer) }
+        ensures answer { IfOk result (λ told. told.answer ≡ (hear_prepare self.old.roster self.old.me self.old.local vote).answer) }
         ensures outs { IfOk result (λ told. told.outs ≡ (hear_prepare self.old.roster self.old.me self.old.local vote).outs) }
         ensures state { OnOk result (self.new ≡ moved self.old ((hear_prepare self.old.roster self.old.me self.old.local vote).local)) }
         ensures same { IsSame self.old self.new }
@@ -246,7 +261,7 @@ impl State {
     /// Counts a Commit of the view, for an open slot.
     fn count_commit(&mut self, vote: Vote) -> Result<Local, NoMemory>
         requires { vote.signer.index < self.old.local.slots.members }
-        ensures answer { IfOk result (λ told. told.answer ≡ Answer.Heard (commit_by self.old.roster self.old.me self.old.local vote None).answer) }
+        ensures answer { IfOk result (λ told. told.answer ≡ (commit_by self.old.roster self.old.me self.old.local vote None).answer) }
         ensures outs { IfOk result (λ told. told.outs ≡ (commit_by self.old.roster self.old.me self.old.local vote None).outs) }
         ensures state { OnOk result (self.new ≡ moved self.old ((commit_by self.old.roster self.old.me self.old.local vote None).local)) }
         ensures same { IsSame self.old self.new }
@@ -259,8 +274,7 @@ impl State {
             .slots
             .commit(vote.signer.index, slot, vote.digest, vote);
         if answer == Take::Taken {
-            self.after_prepared(slot, prepared, &mut outs)?;
-            self.after_committed(slot, committed, &mut outs)?;
+            self.after_count(slot, prepared, committed, &mut outs)?;
         }
         Ok(Local {
             answer: Answer::Heard(answer),
@@ -271,7 +285,7 @@ impl State {
     /// Hears a Commit of a member.
     pub(crate) fn hear_commit(&mut self, vote: Vote) -> Result<Local, NoMemory>
         requires { IsTrue (is_replica self.old.roster vote.signer) }
-        ensures answer { IfOk result (λ told. told.answer ≡ Answer.Heard (hear_commit self.old.roster self.old.me self.old.local vote).answer) }
+        ensures answer { IfOk result (λ told. told.answer ≡ (hear_commit self.old.roster self.old.me self.old.local vote).answer) }
         ensures outs { IfOk result (λ told. told.outs ≡ (hear_commit self.old.roster self.old.me self.old.local vote).outs) }
         ensures state { OnOk result (self.new ≡ moved self.old ((hear_commit self.old.roster self.old.me self.old.local vote).local)) }
         ensures same { IsSame self.old self.new }
@@ -286,7 +300,7 @@ impl State {
     /// Counts a proposal of the view, for an open slot.
     fn count_proposal(&mut self, proposal: PrePrepare, digest: Hash32) -> Result<Local, NoMemory>
         requires { digest ≡ batch_digest proposal.batch }
-        ensures answer { IfOk result (λ told. told.answer ≡ Answer.Heard (proposal_by self.old.roster self.old.me self.old.local proposal None).answer) }
+        ensures answer { IfOk result (λ told. told.answer ≡ (proposal_by self.old.roster self.old.me self.old.local proposal None).answer) }
         ensures outs { IfOk result (λ told. told.outs ≡ (proposal_by self.old.roster self.old.me self.old.local proposal None).outs) }
         ensures state { OnOk result (self.new ≡ moved self.old ((proposal_by self.old.roster self.old.me self.old.local proposal None).local)) }
         ensures same { IsSame self.old self.new }
@@ -299,8 +313,7 @@ impl State {
         if answer == Take::Taken {
             let vote = self.vote(slot, digest);
             outs.push(self.to_cluster(Message::Prepare(vote))?)?;
-            self.after_prepared(slot, prepared, &mut outs)?;
-            self.after_committed(slot, committed, &mut outs)?;
+            self.after_count(slot, prepared, committed, &mut outs)?;
         }
         Ok(Local {
             answer: Answer::Heard(answer),
@@ -311,7 +324,7 @@ impl State {
     /// Hears a proposal.
     pub(crate) fn hear_proposal(&mut self, proposal: PrePrepare) -> Result<Local, NoMemory>
         requires { IsTrue (batch_fits proposal.batch) }
-        ensures answer { IfOk result (λ told. told.answer ≡ Answer.Heard (hear_proposal self.old.roster self.old.me self.old.local proposal).answer) }
+        ensures answer { IfOk result (λ told. told.answer ≡ (hear_proposal self.old.roster self.old.me self.old.local proposal).answer) }
         ensures outs { IfOk result (λ told. told.outs ≡ (hear_proposal self.old.roster self.old.me self.old.local proposal).outs) }
         ensures state { OnOk result (self.new ≡ moved self.old ((hear_proposal self.old.roster self.old.me self.old.local proposal).local)) }
         ensures same { IsSame self.old self.new }

@@ -1,10 +1,13 @@
 //! The ordering in a cluster, and the calls on it.
-ghost use Rattle.std.specs.Prelude.{◌≡◌, ◌+◌, false, true, length, IfOk, OnOk, OnErr, IsTrue};
-ghost use Rattle.fab_rules.specs.Shape.{IsShaped, is_batch_of};
+ghost use Rattle.std.specs.Prelude.{◌≡◌, ◌↔◌, false, length, nat_lt, IfOk, OnOk, OnErr, IsTrue};
+ghost use Rattle.std.specs.List.{list_all};
+ghost use Rattle.std.specs.Result.{is_ok};
+ghost use Rattle.fab_rules.specs.Shape.{IsShaped};
+ghost use Rattle.fab_machine.specs.LocalState.{IsLocalState};
 ghost use Rattle.fab_machine.specs.Proposing.{propose};
 ghost use Rattle.fab_machine.specs.Serving.{served};
-ghost use Rattle.fab_machine.specs.Step.{hear, can_propose};
-ghost use Rattle.local_order.specs.Ordering.{with_local, IsShut};
+ghost use Rattle.fab_machine.specs.Step.{hear};
+ghost use Rattle.local_order.specs.Ordering.{with_local, IsShut, can_by};
 
 use crate::NoMemory;
 use crate::local::Local;
@@ -33,6 +36,14 @@ impl Model for Order {
 }
 
 impl Order {
+    /// The ordering of a replica that remembers this.
+    pub(crate) fn new(state: State) -> Order
+        requires { IsLocalState state.roster state.me state.local }
+        ensures { result ≡ record { roster = state.roster; me = state.me; local = state.local; shut = false } }
+    {
+        Order { state, shut: false }
+    }
+
     /// Hears a message that is shaped for these members. The answer is [`Heard`](fab_base::Answer::Heard) with what came of it; a kind of
     /// which nothing is done here is `Stray`. It fails only where memory is refused now or was before, and then the order is shut.
     pub fn hear(&mut self, message: Message) -> Result<Local, NoMemory>
@@ -46,10 +57,9 @@ impl Order {
         if self.shut {
             return Err(NoMemory);
         }
-        self.shut = true;
-        let told = self.state.hear(message)?;
-        self.shut = false;
-        Ok(told)
+        let told = self.state.hear(message);
+        self.shut = told.is_err();
+        told
     }
 
     /// Proposes the next batch, where this replica is the primary and a batch is due: a full one; or any, where another cluster's
@@ -66,21 +76,15 @@ impl Order {
         if self.shut {
             return Err(NoMemory);
         }
-        self.shut = true;
-        let told = self.state.propose(nudged, known)?;
-        self.shut = false;
-        Ok(told)
+        let told = self.state.propose(nudged, known);
+        self.shut = told.is_err();
+        told
     }
 
     /// Is told of an executed round, with the batch of the own cluster and its outcomes, as many as requests: from then on a request waits
     /// only where its stamp is above the last one of its client that took effect, and batches up to the round are no longer in work. The
     /// clients of the batch are clients of the fabric. It takes no memory, and fails only where the order is shut.
-    pub fn served(
-        &mut self,
-        round: u64,
-        batch: &Batch,
-        outcomes: &Outcomes,
-    ) -> Result<(), NoMemory>
+    pub fn served(&mut self, round: u64, batch: &Batch, outcomes: &Outcomes) -> Result<(), NoMemory>
         requires { IsTrue (list_all (λ x. nat_lt x.client.number (length self.old.roster.homes)) batch.now) }
         ensures state { OnOk result (self.new ≡ with_local self.old (served self.old.local round batch.now outcomes.now)) }
         ensures open { IsTrue (is_ok result) ↔ (self.old.shut ≡ false) }
