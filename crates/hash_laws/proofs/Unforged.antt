@@ -1,102 +1,74 @@
 -- Nothing is forged and no batches clash, unless something breaks SHA-256.
-use Rattle.std.proofs.Common.{◌≡◌, List, [], inl, inr, Some, refl, sym, ap, ◌∙◌, subst}
+use Rattle.std.proofs.Common.{◌≡◌, true, List, [], inl, inr, Some, refl, ap, ◌∙◌, subst}
 use Rattle.sha2.specs.Sha256.{sha256}
 use Rattle.fab_base.specs.declared.ids.Hash32.{Hash32}
 use Rattle.fab_base.specs.declared.ids.Who.{Who}
 use Rattle.fab_base.specs.declared.requests.Request.{Request}
 use Rattle.fab_base.specs.declared.messages.Message.{Message}
-use Rattle.fab_rules.specs.Statements.{signer_of, unsigned}
+use Rattle.fab_rules.specs.Format.{batch_fits}
+use Rattle.fab_rules.specs.Statements.{signer_of}
 use Rattle.fab_rules.specs.Spelling.{content_of, spelling_of_batch, seal_of, signed as sealed_by}
 use Rattle.fab_rules.specs.Digests.{batch_digest}
-use Rattle.world_laws.specs.World.{World, IsMade, IsWorld, AllHonest, FewFaulty, Unforged, NoClash}
+use Rattle.fab_rules.proofs.Fitting.{fields_are, each_batch_fits}
+use Rattle.lms_tree.specs.declared.public.Public.{Public}
+use Rattle.lms_tree.specs.Verdict.{Valid}
+use Rattle.bft_verify.specs.Sound.{signature_of, IsSignedBy}
+use Rattle.world_laws.specs.World.{World, IsOfMade, IsWorld, AllHonest, FewFaulty, Unforged, NoClash}
 use Rattle.world_laws.specs.Safety.{IsSafe}
+use Rattle.world_laws.proofs.Made.{heard_part_fits}
 use Rattle.world_laws.proofs.Headline.{worlds_are_safe}
 use Rattle.lms_laws.proofs.HashLemmas.{one_or_collision}
 use Rattle.lms_laws.proofs.ForgeryLemmas.{forged}
-use Rattle.hash_laws.specs.Keyring.{Keyring, sig_of, IsCorrectSigner, IsSeen, IsSigned, IsSpelled, IsUnbroken}
+use Rattle.hash_laws.specs.Signers.{Signers, IsSeen, IsSigned, IsKnownOrNull, IsUnbroken}
+use Rattle.hash_laws.proofs.Bytes.{content_is_bytes, batch_is_bytes, signature_is_bytes, one_batch}
 
--- whether a statement was made does not depend on its signature
-made_without : (w : World) (m : Message) → IsMade w m → IsMade w (unsigned m)
-made_without w (Message.Request x) made = made
-made_without w (Message.PrePrepare x) made = made
-made_without w (Message.Prepare x) made = made
-made_without w (Message.Commit x) made = made
-made_without w (Message.Checkpoint x) made = made
-made_without w (Message.ViewChange x) made = made
-made_without w (Message.NewView x) made = made
-made_without w (Message.Drvc x) made = made
-made_without w (Message.Rvc x) made = made
-made_without w (Message.ReplyNote x) made = made
-made_without w (Message.Share x) made = made
-made_without w (Message.Fetch x) made = made
-
-made_with : (w : World) (m : Message) → IsMade w (unsigned m) → IsMade w m
-made_with w (Message.Request x) made = made
-made_with w (Message.PrePrepare x) made = made
-made_with w (Message.Prepare x) made = made
-made_with w (Message.Commit x) made = made
-made_with w (Message.Checkpoint x) made = made
-made_with w (Message.ViewChange x) made = made
-made_with w (Message.NewView x) made = made
-made_with w (Message.Drvc x) made = made
-made_with w (Message.Rvc x) made = made
-made_with w (Message.ReplyNote x) made = made
-made_with w (Message.Share x) made = made
-made_with w (Message.Fetch x) made = made
-
--- only the statements of correct signers matter
-made_if_correct : (w : World) (m : Message) → ((who : Who) → signer_of m ≡ Some who → IsCorrectSigner w who → IsMade w m) → IsMade w m
-made_if_correct w (Message.Request x) h = λ not_faulty. h (Who.Client x.client) refl not_faulty not_faulty
-made_if_correct w (Message.PrePrepare x) h = λ correct. h (Who.Replica x.signer) refl correct correct
-made_if_correct w (Message.Prepare x) h = λ correct. h (Who.Replica x.signer) refl correct correct
-made_if_correct w (Message.Commit x) h = λ correct. h (Who.Replica x.signer) refl correct correct
-made_if_correct w (Message.Checkpoint x) h = λ correct. h (Who.Replica x.signer) refl correct correct
-made_if_correct w (Message.ViewChange x) h = λ correct. h (Who.Replica x.signer) refl correct correct
-made_if_correct w (Message.NewView x) h = λ correct. h (Who.Replica x.signer) refl correct correct
-made_if_correct w (Message.Drvc x) h = λ correct. h (Who.Replica x.signer) refl correct correct
-made_if_correct w (Message.Rvc x) h = λ correct. h (Who.Replica x.signer) refl correct correct
-made_if_correct w (Message.ReplyNote x) h = λ correct. h (Who.Replica x.signer) refl correct correct
-made_if_correct w (Message.Share x) h = tt
-made_if_correct w (Message.Fetch x) h = tt
-
-seen_is_made : (w : World) (ring : Keyring) → IsSigned w ring → IsSpelled w → IsUnbroken w ring → (who : Who) (statement : Message)
-    → IsSeen w who statement → IsMade w statement
-seen_is_made w ring signs spelled unbroken who statement seen =
-    let signer = signs.signs who seen.correct_signer in
-    let verified = signs.verified who statement seen in
-    elim (forged (ring.key_of who) (ring.signed_by who) (content_of statement) (sig_of statement) signer.id signer.sound verified.content
-    verified.signature verified.valid) [
-      | inr broken ↦ absurd (unbroken.statements who statement seen broken)
+seen_is_made : (w : World) (signers : Signers) → IsWorld w → IsSigned w signers → IsUnbroken w signers → (who : Who) (part : Message)
+    → IsSeen w who part → IsSignedBy w.ring who part → IsOfMade w who (content_of part)
+seen_is_made w signers world signs unbroken who part seen signed =
+    let signer = signs who seen.correct_signer in
+    let fits = heard_part_fits w world seen.hearer seen.correct seen.message seen.heard part seen.inside in
+    elim (forged (signers.key_by who) (signers.signed_by who) (content_of part) (signature_of part) signer.id signer.sound (content_is_bytes part fits)
+    (signature_is_bytes part fits) (subst (λ (k : Public). Valid k (content_of part) (signature_of part)) (signer.is_key signed.key signed.is_key) signed.valid)) [
+      | inr broken ↦ absurd (unbroken.parts who part seen broken)
       | inl own ↦
-          let source = signer.made _ own.signing own.signed in
-          let same : unsigned statement ≡ unsigned source.statement =
-          spelled.statements who statement source.statement seen source.names source.made (own.same_content ∙ source.content_is) in
-          made_with w statement (subst (λ (m : Message). IsMade w m) (sym same) (made_without w source.statement source.made))
+          (let source = signer.made _ own.signing own.signed in
+          record {
+            statement = source.statement;
+            fields = source.fields;
+            names = source.names;
+            made = source.made;
+            content_is = own.same_content ∙ source.content_is;
+          })
     ]
 
-pub unforged : (w : World) (ring : Keyring) → IsSigned w ring → IsSpelled w → IsUnbroken w ring → Unforged w
-unforged w ring signs spelled unbroken i correct m heard statement inside =
-    made_if_correct w statement
-    (λ who names correct_signer.
-    seen_is_made w ring signs spelled unbroken who statement
-    (record { hearer = i; correct = correct; message = m; heard = heard; inside = inside; names = names; correct_signer = correct_signer }))
+pub unforged : (w : World) (signers : Signers) → IsWorld w → IsSigned w signers → IsUnbroken w signers → Unforged w
+unforged w signers world signs unbroken i correct m heard part inside who names correct_signer =
+    seen_is_made w signers world signs unbroken who part
+    (record { hearer = i; correct = correct; message = m; heard = heard; inside = inside; names = names; correct_signer = correct_signer })
 
 one_hash : (a b : List Request) → batch_digest a ≡ batch_digest b → sha256 (spelling_of_batch a) ≡ sha256 (spelling_of_batch b)
 unfolding batch_digest
 one_hash a b e = ap (λ (h : Hash32). h.bytes) e
 
-pub no_clash : (w : World) (ring : Keyring) → IsSpelled w → IsUnbroken w ring → NoClash w
-no_clash w ring spelled unbroken a b known other e =
-    elim (one_or_collision (spelling_of_batch a) (spelling_of_batch b) (spelled.bytes a known) (spelled.bytes b other) (one_hash a b e)) [
-      | inl same ↦ spelled.batches a b known other same
+known_fits : (w : World) → IsWorld w → (batch : List Request) → IsKnownOrNull w batch → batch_fits batch ≡ true
+known_fits w world batch (inl e) = ap batch_fits e
+known_fits w world batch (inr k) =
+    each_batch_fits k.message batch (fields_are k.message (world.sound k.hearer k.correct k.message k.heard).spelled) k.inside
+
+pub no_clash : (w : World) (signers : Signers) → IsWorld w → IsUnbroken w signers → NoClash w
+no_clash w signers world unbroken a b known other e =
+    let fa = known_fits w world a known in
+    let fb = known_fits w world b other in
+    elim (one_or_collision (spelling_of_batch a) (spelling_of_batch b) (batch_is_bytes a fa) (batch_is_bytes b fb) (one_hash a b e)) [
+      | inl same ↦ one_batch a b fa fb same
       | inr collision ↦ absurd (unbroken.batches a b known other collision)
     ]
 
-pub safe : (w : World) (ring : Keyring) → IsWorld w → AllHonest w → FewFaulty w → IsSigned w ring → IsSpelled w → IsUnbroken w ring → IsSafe w
-safe w ring world honest few signs spelled unbroken =
-    worlds_are_safe w world honest few (unforged w ring signs spelled unbroken) (no_clash w ring spelled unbroken)
+pub safe : (w : World) (signers : Signers) → IsWorld w → AllHonest w → FewFaulty w → IsSigned w signers → IsUnbroken w signers → IsSafe w
+safe w signers world honest few signs unbroken =
+    worlds_are_safe w world honest few (unforged w signers world signs unbroken) (no_clash w signers world unbroken)
 
-pub sealed : (m : Message) (who : Who) → signer_of m ≡ Some who → seal_of m ≡ sealed_by [] (sig_of m)
+pub sealed : (m : Message) (who : Who) → signer_of m ≡ Some who → seal_of m ≡ sealed_by [] (signature_of m)
 sealed (Message.Request x) who e = refl
 sealed (Message.PrePrepare x) who e = refl
 sealed (Message.Prepare x) who e = refl

@@ -13,11 +13,12 @@ use Rattle.fab_rules.specs.Lists.{In}
 use Rattle.fab_rules.specs.Ledger.{start_of}
 use Rattle.fab_rules.specs.Diary.{Said, ledger}
 use Rattle.fab_rules.specs.Rules.{MayNote}
-use Rattle.world_laws.specs.World.{World, member_of, IsWorld, AllHonest, FewFaulty, Unforged, NoClash, OneCertificate, common_ledger, IsRepeated}
+use Rattle.world_laws.specs.World.{World, member_of, IsWorld, AllHonest, FewFaulty, AllMade, Unforged, NoClash, OneCertificate, common_ledger, IsRepeated}
 use Rattle.world_laws.specs.Safety.{IsInOrder, IsReplyOf, AllIssued, IsSafe}
 use Rattle.fab_rules.proofs.Parts.{part_is_statement, request_is_part}
 use Rattle.fab_rules.proofs.Runs.{in_longer_run}
 use Rattle.fab_rules.proofs.Diaries.{kept}
+use Rattle.world_laws.proofs.Made.{all_made}
 use Rattle.world_laws.proofs.Votes.{correct_in_enough}
 use Rattle.world_laws.proofs.Voting.{one_committed, one_heard}
 use Rattle.world_laws.proofs.Prefixes.{Certified, ledger_in_order, certified, common_by, prefixes}
@@ -25,7 +26,7 @@ use Rattle.world_laws.proofs.Once.{run_done_once}
 
 -- ---- the promises one by one
 
-module _ (w : World) (honest : AllHonest w) (few : FewFaulty w) (unforged : Unforged w) (no_clash : NoClash w) (one : OneCertificate w) where
+module _ (w : World) (honest : AllHonest w) (few : FewFaulty w) (made : AllMade w) (no_clash : NoClash w) (one : OneCertificate w) where
   -- the requests of a correct replica's ledger were issued
   block_issued : (block : Block) → Certified w block → (x : Request) → In x block.batch → w.faulty (Who.Client x.client) ≡ false
       → In (record x { sig = [] }) (w.issued x.client)
@@ -34,7 +35,7 @@ module _ (w : World) (honest : AllHonest w) (few : FewFaulty w) (unforged : Unfo
         | inl e ↦ absurd (subst (λ b. In x b) e h)
         | inr k ↦
             (let part = request_is_part k.message block.batch x k.inside h in
-            unforged k.hearer k.correct k.message k.heard (Message.Request x) (part_is_statement k.message (Message.Request x) part refl) good)
+            made k.hearer k.correct k.message k.heard (Message.Request x) (part_is_statement k.message (Message.Request x) part refl) good)
       ]
 
   -- of those who repeat a note one is correct; its own ledger gave the note, and begins the common one
@@ -69,8 +70,9 @@ module _ (w : World) (honest : AllHonest w) (few : FewFaulty w) (unforged : Unfo
 -- ---- the laws
 
 pub clusters_agree : (w : World) → IsWorld w → AllHonest w → OneCertificate w → FewFaulty w → Unforged w → NoClash w → IsSafe w
-clusters_agree w world honest one few unforged no_clash = safe w honest few unforged no_clash one
+clusters_agree w world honest one few unforged no_clash = safe w honest few (all_made w world unforged) no_clash one
 
 pub worlds_are_safe : (w : World) → IsWorld w → AllHonest w → FewFaulty w → Unforged w → NoClash w → IsSafe w
 worlds_are_safe w world honest few unforged no_clash =
-    safe w honest few unforged no_clash (one_heard w unforged (one_committed w world honest few unforged))
+    let made = all_made w world unforged in
+    safe w honest few made no_clash (one_heard w made (one_committed w world honest few made))

@@ -1,9 +1,11 @@
+pub mod Made
 pub mod Votes
 pub mod Voting
 pub mod Prefixes
 pub mod Once
 pub mod Headline
-pub mod LoneWorld
 pub mod Written
+pub mod Signing
+pub mod LoneWorld
 pub mod BusyWorld
 pub mod PairWorld

@@ -16,7 +16,7 @@ use Rattle.fab_rules.specs.Lists.{In}
 use Rattle.fab_rules.specs.Digests.{batch_digest}
 use Rattle.fab_rules.specs.Quoted.{IsVoteFor, IsOlderCertificate, IsShownBy}
 use Rattle.fab_rules.specs.Diary.{Entry, Heard, Said, PrepareHeard, CommitHeard, QuorumHeard}
-use Rattle.world_laws.specs.World.{World, member_of, IsCorrect, IsWorld, is_faulty, FewFaulty, Unforged, QuorumSaid}
+use Rattle.world_laws.specs.World.{World, member_of, IsCorrect, IsWorld, is_faulty, FewFaulty, AllMade, QuorumSaid}
 use Rattle.fab_rules.proofs.Lists.{of_map, of_filter, in_from_is_member}
 use Rattle.fab_rules.proofs.Parts.{part_is_statement, change_is_part, prepare_is_part}
 
@@ -79,7 +79,7 @@ said_for kind w c view slot digest v2 s2 d2 e f g q = record {
 
 -- ---- from heard to said
 
-module _ (w : World) (unforged : Unforged w) (i : ReplicaId) (correct : IsCorrect w i) where
+module _ (w : World) (all_made : AllMade w) (i : ReplicaId) (correct : IsCorrect w i) where
   -- what was heard of correct members, they said
   said_from_heard : (kind : Vote → Message) (WasHeard : Vote → Type 0)
       → ((v : Vote) → WasHeard v → IsCorrect w v.signer → In (Said (kind (record v { sig = [] }))) (w.diary v.signer))
@@ -100,11 +100,11 @@ module _ (w : World) (unforged : Unforged w) (i : ReplicaId) (correct : IsCorrec
   pub prepares_said : (past : List Entry) → ((x : Entry) → In x past → In x (w.diary i)) → (c view slot : ℕ) (digest : Hash32)
       → QuorumHeard w.roster (PrepareHeard past) c view slot digest → QuorumSaid Message.Prepare w c view slot digest
   prepares_said past within =
-      said_from_heard Message.Prepare (PrepareHeard past) (λ v h. unforged i correct (Message.Prepare v) (within _ h) (Message.Prepare v) (inl refl))
+      said_from_heard Message.Prepare (PrepareHeard past) (λ v h. all_made i correct (Message.Prepare v) (within _ h) (Message.Prepare v) (inl refl))
 
   pub commits_said : (c view slot : ℕ) (digest : Hash32) → QuorumHeard w.roster (CommitHeard (w.diary i)) c view slot digest
       → QuorumSaid Message.Commit w c view slot digest
-  commits_said = said_from_heard Message.Commit (CommitHeard (w.diary i)) (λ v h. unforged i correct h.message h.heard (Message.Commit v) h.inside)
+  commits_said = said_from_heard Message.Commit (CommitHeard (w.diary i)) (λ v h. all_made i correct h.message h.heard (Message.Commit v) h.inside)
 
   -- ---- what a new view quotes
 
@@ -116,7 +116,7 @@ module _ (w : World) (unforged : Unforged w) (i : ReplicaId) (correct : IsCorrec
         let statement = part_is_statement (Message.NewView x) (Message.ViewChange change) (change_is_part x change h) refl in
         let who = same_member change.signer c k (shown.members change h ∙ cluster_is) e in
         subst (λ j. IsCorrect w j → In (Said (Message.ViewChange (record change { sig = [] }))) (w.diary j)) who
-        (unforged i correct (Message.NewView x) heard (Message.ViewChange change) statement)
+        (all_made i correct (Message.NewView x) heard (Message.ViewChange change) statement)
 
     -- the quorum of a certificate that it has said the Prepares
     pub certificate_said : (change : ViewChange) → In change x.changes → (k : PreparedCert) → In k change.prepared
@@ -135,7 +135,7 @@ module _ (w : World) (unforged : Unforged w) (i : ReplicaId) (correct : IsCorrec
               record {
                 vote = record vote { sig = [] };
                 said = subst (λ j. IsCorrect w j → In (Said (Message.Prepare (record vote { sig = [] }))) (w.diary j)) who
-                    (unforged i correct (Message.NewView x) heard (Message.Prepare vote) statement) ok;
+                    (all_made i correct (Message.NewView x) heard (Message.Prepare vote) statement) ok;
                 votes_for = record { view_is = equal.view_is; slot_is = equal.slot_is; digest_is = equal.digest_is };
               });
         }

@@ -16,11 +16,12 @@ use Rattle.fab_rules.specs.Choice.{batch_in, IsDecided}
 use Rattle.fab_rules.specs.Quoted.{IsShownBy}
 use Rattle.fab_rules.specs.Diary.{Entry, Heard, Said}
 use Rattle.fab_rules.specs.Rules.{IsOpenedFor, KeepsRules}
-use Rattle.world_laws.specs.World.{World, member_of, IsCorrect, IsWorld, AllHonest, FewFaulty, Unforged, QuorumSaid, OnePrepared, OneCommitted, OneCertificate, InViewZero}
+use Rattle.world_laws.specs.World.{World, member_of, IsCorrect, IsWorld, AllHonest, FewFaulty, AllMade, QuorumSaid, OnePrepared, OneCommitted, OneCertificate, InViewZero}
 use Rattle.fab_rules.proofs.Choices.{is_decided, le_base, le_top}
 use Rattle.fab_rules.proofs.Lists.{of_map, in_flat_map, of_flat_map}
 use Rattle.fab_rules.proofs.Shapes.{shown}
 use Rattle.fab_rules.proofs.Diaries.{kept, in_order, first_is}
+use Rattle.world_laws.proofs.Made.{heard_is_shaped}
 use Rattle.world_laws.proofs.Votes.{correct_in_quorum, correct_in_both, said_for, prepares_said, commits_said, change_said, certificate_said}
 
 same_prepare : (x y : Vote) → Said (Message.Prepare x) ≡ Said (Message.Prepare y) → x ≡ y
@@ -42,7 +43,7 @@ record PreparedBetween (w : World) (c least limit slot : ℕ) (digest : Hash32) 
   below_limit : view < limit
   said : QuorumSaid Message.Prepare w c view slot digest
 
-module _ (w : World) (world : IsWorld w) (honest : AllHonest w) (few : FewFaulty w) (unforged : Unforged w) (c : ℕ) (is_c : is_cluster w.roster c ≡ true) where
+module _ (w : World) (world : IsWorld w) (honest : AllHonest w) (few : FewFaulty w) (all_made : AllMade w) (c : ℕ) (is_c : is_cluster w.roster c ≡ true) where
   rules_of : (k : ℕ) → IsCorrect w (member_of c k) → KeepsRules w.roster (member_of c k) (w.diary (member_of c k))
   rules_of k ok = (honest (member_of c k) ok).rules
 
@@ -74,7 +75,7 @@ module _ (w : World) (world : IsWorld w) (honest : AllHonest w) (few : FewFaulty
       let a = q.each k.index k.is_in k.correct in
       let at = kept w.roster i (w.diary i) (Said (Message.Commit a.vote)) (rules_of k.index k.correct) a.said in
       said_for Message.Prepare w c a.vote.view a.vote.slot a.vote.digest view slot digest a.votes_for.view_is a.votes_for.slot_is a.votes_for.digest_is
-      (prepares_said w unforged i k.correct at.past at.within c a.vote.view a.vote.slot a.vote.digest at.may.commit_rule)
+      (prepares_said w all_made i k.correct at.past at.within c a.vote.view a.vote.slot a.vote.digest at.may.commit_rule)
 
   -- ---- later views
 
@@ -96,7 +97,7 @@ module _ (w : World) (world : IsWorld w) (honest : AllHonest w) (few : FewFaulty
     view_is = (first_is c v2 past new_view opened.is_first).view_is
 
     quoted : IsShownBy w.roster new_view
-    quoted = shown w.roster new_view (world.shaped (member_of c k) correct (Message.NewView new_view) heard)
+    quoted = shown w.roster new_view (heard_is_shaped w world (member_of c k) correct (Message.NewView new_view) heard)
 
     -- a certificate of the slot in the new view: the deciding one is no older, and its quorum prepared what the slot was opened for
     by_certificate : (change : ViewChange) → In change new_view.changes → (q : PreparedCert) → In q change.prepared → q.slot ≡ slot
@@ -109,7 +110,7 @@ module _ (w : World) (world : IsWorld w) (honest : AllHonest w) (few : FewFaulty
         let older = (quoted.certificates from.from from.is_in best.certificate from.inside).older in
         let decided : PreparedCert = best.certificate in
         let digest_is : d2 ≡ batch_digest decided.batch = opened.as_chosen (omega arith) ∙ ap (λ x. batch_digest (batch_in x)) best.deciding_is in
-        let said = certificate_said w unforged (member_of c k) correct new_view heard quoted c cluster_is from.from from.is_in decided from.inside in
+        let said = certificate_said w all_made (member_of c k) correct new_view heard quoted c cluster_is from.from from.is_in decided from.inside in
         record {
           view = decided.view;
           from_least = omega (arith, best.no_older, least);
@@ -127,7 +128,7 @@ module _ (w : World) (world : IsWorld w) (honest : AllHonest w) (few : FewFaulty
         let a = committed.each j.index j.in_first j.correct in
         let from = of_map (λ x. x.signer.index) j.index new_view.changes j.in_second in
         let change : ViewChange = from.from in
-        let said = change_said w unforged (member_of c k) correct new_view heard quoted c cluster_is change from.is_in j.index from.same j.correct in
+        let said = change_said w all_made (member_of c k) correct new_view heard quoted c cluster_is change from.is_in j.index from.same j.correct in
         let lows = le_base new_view change from.is_in in
         let asks : change.view ≡ v2 = quoted.views change from.is_in ∙ view_is in
         let i = member_of c j.index in
@@ -190,16 +191,16 @@ module _ (w : World) (world : IsWorld w) (honest : AllHonest w) (few : FewFaulty
 
 -- ---- of a whole world
 
-pub one_prepared : (w : World) → IsWorld w → AllHonest w → FewFaulty w → Unforged w → OnePrepared w
-one_prepared w world honest few unforged c is_c = same_view w world honest few unforged c is_c
+pub one_prepared : (w : World) → IsWorld w → AllHonest w → FewFaulty w → AllMade w → OnePrepared w
+one_prepared w world honest few all_made c is_c = same_view w world honest few all_made c is_c
 
-pub one_committed : (w : World) → IsWorld w → AllHonest w → FewFaulty w → Unforged w → OneCommitted w
-one_committed w world honest few unforged c is_c = one_certificate w world honest few unforged c is_c
+pub one_committed : (w : World) → IsWorld w → AllHonest w → FewFaulty w → AllMade w → OneCommitted w
+one_committed w world honest few all_made c is_c = one_certificate w world honest few all_made c is_c
 
-pub one_committed_in_view_zero : (w : World) → IsWorld w → AllHonest w → FewFaulty w → Unforged w → InViewZero w → OneCommitted w
-one_committed_in_view_zero w world honest few unforged stays c is_c = one_certificate_in_view_zero w world honest few unforged c is_c stays
+pub one_committed_in_view_zero : (w : World) → IsWorld w → AllHonest w → FewFaulty w → AllMade w → InViewZero w → OneCommitted w
+one_committed_in_view_zero w world honest few all_made stays c is_c = one_certificate_in_view_zero w world honest few all_made c is_c stays
 
 -- what holds of Commits that were said holds of those that were heard
-pub one_heard : (w : World) → Unforged w → OneCommitted w → OneCertificate w
-one_heard w unforged one c is_c i j ci cj u v slot d e qa qb =
-    one c is_c u v slot d e (commits_said w unforged i ci c u slot d qa) (commits_said w unforged j cj c v slot e qb)
+pub one_heard : (w : World) → AllMade w → OneCommitted w → OneCertificate w
+one_heard w all_made one c is_c i j ci cj u v slot d e qa qb =
+    one c is_c u v slot d e (commits_said w all_made i ci c u slot d qa) (commits_said w all_made j cj c v slot e qb)

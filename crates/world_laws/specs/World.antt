@@ -16,14 +16,19 @@ use Rattle.fab_base.specs.declared.messages.Message.{Message}
 use Rattle.fab_rules.specs.declared.blocks.Block.{Block}
 use Rattle.fab_rules.specs.Lists.{In}
 use Rattle.fab_rules.specs.Digests.{batch_digest}
-use Rattle.fab_rules.specs.Statements.{statements_of, signer_of, unsigned, batches_of}
-use Rattle.fab_rules.specs.Shape.{IsShaped}
+use Rattle.fab_rules.specs.Spelling.{content_of}
+use Rattle.fab_rules.specs.Format.{fields_fit}
+use Rattle.fab_rules.specs.Statements.{parts_of, statements_of, signer_of, unsigned, batches_of}
 use Rattle.fab_rules.specs.Quoted.{IsVoteFor}
 use Rattle.fab_rules.specs.Diary.{Entry, Heard, Said, ledger, CommitHeard, QuorumHeard}
 use Rattle.fab_rules.specs.Rules.{IsHonest}
+use Rattle.bft_verify.specs.Ring.{Ring}
+use Rattle.bft_verify.specs.Sound.{IsSound, IsSignedBy}
 
 pub record World : Type 0 where
   pub roster : Roster
+  -- the public keys of all who sign
+  pub ring : Ring
   pub faulty : Who → Bool
   -- the requests that a client issued, without their signatures
   pub issued : ClientId → List Request
@@ -39,10 +44,11 @@ pub record IsCorrect (w : World) (i : ReplicaId) : Type 0 where
   pub takes_part : IsTrue (is_replica w.roster i)
   pub not_faulty : w.faulty (Who.Replica i) ≡ false
 
--- each cluster has a member, and what correct replicas heard is shaped
+-- each cluster has a member, and what correct replicas heard is sound: well formed for the members, and each statement in it is validly
+-- signed under its signer's key
 pub record IsWorld (w : World) : Type 0 where
   pub peopled : (c : ℕ) → IsTrue (is_cluster w.roster c) → 1 ≤ size_of w.roster c
-  pub shaped : (i : ReplicaId) → IsCorrect w i → (m : Message) → In (Heard m) (w.diary i) → IsShaped w.roster m
+  pub sound : (i : ReplicaId) → IsCorrect w i → (m : Message) → In (Heard m) (w.diary i) → IsSound w.roster w.ring m
 
 -- the correct replicas are honest
 abbrev pub AllHonest : World → Type 0
@@ -67,9 +73,29 @@ IsMade w m = IsSaid (signer_of m)
     IsSaid (Some (Who.Replica i)) = IsCorrect w i → In (Said (unsigned m)) (w.diary i)
     IsSaid other = Unit {0}
 
--- no statement that a correct replica heard bears the name of a correct signer who didn't make it
+-- a signer that isn't faulty; of replicas, one that takes part
+abbrev pub IsCorrectSigner : World → Who → Type 0
+IsCorrectSigner w (Who.Replica i) = IsCorrect w i
+IsCorrectSigner w (Who.Client c) = w.faulty (Who.Client c) ≡ false
+
+-- the content is that of a statement of the format that the signer made
+pub record IsOfMade (w : World) (who : Who) (content : List ℕ) : Type 0 where
+  pub statement : Message
+  pub fields : IsTrue (fields_fit statement)
+  pub names : signer_of statement ≡ Some who
+  pub made : IsMade w statement
+  pub content_is : content ≡ content_of statement
+
+-- nothing is forged: where a part of what a correct replica heard bears a signature that is valid under a correct signer's key, that
+-- signer made its content
 abbrev pub Unforged : World → Type 0
 Unforged w = (i : ReplicaId) → IsCorrect w i → (m : Message) → In (Heard m) (w.diary i)
+    → (part : Message) → In part (parts_of m) → (who : Who) → signer_of part ≡ Some who → IsCorrectSigner w who → IsSignedBy w.ring who part
+    → IsOfMade w who (content_of part)
+
+-- no statement that a correct replica heard bears the name of a correct signer who didn't make it
+abbrev pub AllMade : World → Type 0
+AllMade w = (i : ReplicaId) → IsCorrect w i → (m : Message) → In (Heard m) (w.diary i)
     → (statement : Message) → In statement (statements_of m) → IsMade w statement
 
 -- a batch that stands in a message which a correct replica heard

@@ -9,7 +9,7 @@ returns c = record {
   few_faulty = few_faulty;
   unforged = unforged;
   no_clash = no_clash;
-  ledger = refl;
+  ledger = λ seed. refl;
   repeated = repeated;
-  carried_over = inl refl;
+  carried_over = λ seed. inl refl;
 }
