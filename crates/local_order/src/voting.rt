@@ -8,7 +8,9 @@ ghost use Rattle.pbft_slots.specs.Window.{batch_at, prepared_at, committed_at, p
 ghost use Rattle.fab_machine.specs.State.{wanted};
 ghost use Rattle.local_order.specs.Inside.{moved, IsSame};
 ghost use Rattle.fab_machine.specs.Items.{to_cluster, cluster_of, vote_of};
-ghost use Rattle.fab_machine.specs.Voting.{vote_refusal, batch_or_null, prepared_certificate, commit_certificate, keep_prepared, commit_outs, certified_outs, newly, refused, prepare_by, hear_prepare, commit_by, hear_commit, proposal_by, hear_proposal};
+ghost use Rattle.fab_machine.specs.Voting.{vote_refusal, batch_or_null, prepared_certificate, commit_certificate, keep_prepared};
+ghost use Rattle.fab_machine.specs.Voting.{newly, commit_outs, certified_outs, refused};
+ghost use Rattle.fab_machine.specs.Voting.{prepare_by, hear_prepare, commit_by, hear_commit, proposal_by, hear_proposal};
 
 use crate::NoMemory;
 use crate::local::Local;
@@ -31,7 +33,8 @@ impl State {
         }
     }
 
-    /// Why a proposal or a vote isn't for the open slots of the view.
+    /// Why a proposal or a vote isn't for the open slots of the view, by the cluster of its signer: the first that holds of `Stray`, `Old`,
+    /// `OtherView`, `Ahead` and `Far`.
     fn refusal(&self, cluster: u8, view: u64, slot: u64) -> Option<Take>
         ensures { result ≡ vote_refusal self.now.me self.now.local cluster view slot }
     {
@@ -52,7 +55,7 @@ impl State {
         self.slots.refusal(slot)
     }
 
-    /// The members of the own cluster.
+    /// The members of the own cluster, this replica too, by rising index.
     fn cluster(&self) -> Result<Targets, NoMemory>
         ensures { IfOk result (λ to. to ≡ cluster_of self.now.roster self.now.me) }
     {
@@ -67,7 +70,7 @@ impl State {
         Ok(to)
     }
 
-    /// The message goes to the cluster.
+    /// The message, put for all members of the own cluster.
     fn to_cluster(&self, message: Message) -> Result<Out, NoMemory>
         ensures { IfOk result (λ out. out ≡ to_cluster self.now.roster self.now.me message) }
     {
@@ -85,7 +88,7 @@ impl State {
         }
     }
 
-    /// The prepared certificate of a slot.
+    /// The prepared certificate of a slot (PBFT, section 4.4): its batch and the first Prepares of a quorum, by index.
     fn prepared_certificate(&self, slot: u64, digest: Hash32) -> Result<PreparedCert, NoMemory>
         requires { prepared_at self.now.local.slots slot ≡ Some digest }
         ensures { IfOk result (λ k. k ≡ prepared_certificate self.now.local slot digest) }
@@ -100,7 +103,7 @@ impl State {
         })
     }
 
-    /// The commit certificate of a slot.
+    /// The commit certificate of a slot (GeoBFT): its batch and the first Commits of a quorum, by index.
     fn commit_certificate(&self, slot: u64, digest: Hash32) -> Result<CommitCert, NoMemory>
         requires { committed_at self.now.local.slots slot ≡ Some digest }
         ensures { IfOk result (λ k. k ≡ commit_certificate self.now.me self.now.local slot digest) }
@@ -114,7 +117,7 @@ impl State {
         })
     }
 
-    /// Keeps the certificate of a slot.
+    /// Keeps the prepared certificate of a slot, in the slot's place.
     fn keep_prepared(&mut self, slot: u64, digest: Hash32) -> Result<(), NoMemory>
         requires { prepared_at self.old.local.slots slot ≡ Some digest }
         ensures kept { OnOk result (self.new ≡ moved self.old (keep_prepared self.old.local slot (Some digest))) }
@@ -127,7 +130,7 @@ impl State {
         Ok(())
     }
 
-    /// A vote of this replica.
+    /// A vote of this replica in the entered view, not signed yet.
     fn vote(&self, slot: u64, digest: Hash32) -> Vote
         ensures { result ≡ vote_of self.now.me self.now.local.view slot digest }
     {
@@ -140,15 +143,17 @@ impl State {
         }
     }
 
-    /// A slot that newly is prepared.
+    /// Where the slot is prepared and wasn't before: its certificate is kept, and a Commit goes to the cluster.
     fn after_prepared(
         &mut self,
         slot: u64,
         before: Option<Hash32>,
         outs: &mut Outs,
     ) -> Result<(), NoMemory>
-        ensures state { OnOk result (self.new ≡ moved self.old (keep_prepared self.old.local slot (newly before (prepared_at self.old.local.slots slot)))) }
-        ensures outs { OnOk result (outs.new ≡ outs.old ++ commit_outs self.old.roster self.old.me self.old.local.view slot (newly before (prepared_at self.old.local.slots slot))) }
+        ensures state { OnOk result
+            (self.new ≡ moved self.old (keep_prepared self.old.local slot (newly before (prepared_at self.old.local.slots slot)))) }
+        ensures outs { OnOk result (outs.new ≡ outs.old
+            ++ commit_outs self.old.roster self.old.me self.old.local.view slot (newly before (prepared_at self.old.local.slots slot))) }
         ensures same { IsSame self.old self.new }
     {
         if before.is_some() {
@@ -165,14 +170,15 @@ impl State {
         }
     }
 
-    /// A slot that newly is committed.
+    /// Where the slot is committed and wasn't before: its commit certificate is formed.
     fn after_committed(
         &self,
         slot: u64,
         before: Option<Hash32>,
         outs: &mut Outs,
     ) -> Result<(), NoMemory>
-        ensures { OnOk result (outs.new ≡ outs.old ++ certified_outs self.now.me self.now.local slot (newly before (committed_at self.now.local.slots slot))) }
+        ensures { OnOk result (outs.new ≡ outs.old
+            ++ certified_outs self.now.me self.now.local slot (newly before (committed_at self.now.local.slots slot))) }
     {
         if before.is_some() {
             return Ok(());
@@ -186,11 +192,11 @@ impl State {
         }
     }
 
-    /// The message isn't counted; where it is ahead or far it is kept.
+    /// The message isn't counted. One that is ahead or far is kept.
     fn refuse(&mut self, message: Message, answer: Take) -> Result<Local, NoMemory>
         ensures answer { IfOk result (λ told. told.answer ≡ (refused self.old.local message answer).answer) }
         ensures outs { IfOk result (λ told. told.outs ≡ (refused self.old.local message answer).outs) }
-        ensures state { OnOk result (self.new ≡ moved self.old ((refused self.old.local message answer).local)) }
+        ensures state { OnOk result (self.new ≡ moved self.old (refused self.old.local message answer).local) }
         ensures same { IsSame self.old self.new }
     {
         if matches!(answer, Take::Ahead { .. } | Take::Far { .. }) {
@@ -211,8 +217,11 @@ impl State {
         committed: Option<Hash32>,
         outs: &mut Outs,
     ) -> Result<(), NoMemory>
-        ensures state { OnOk result (self.new ≡ moved self.old (keep_prepared self.old.local slot (newly prepared (prepared_at self.old.local.slots slot)))) }
-        ensures outs { OnOk result (outs.new ≡ outs.old ++ (commit_outs self.old.roster self.old.me self.old.local.view slot (newly prepared (prepared_at self.old.local.slots slot)) ++ certified_outs self.old.me self.old.local slot (newly committed (committed_at self.old.local.slots slot)))) }
+        ensures state { OnOk result
+            (self.new ≡ moved self.old (keep_prepared self.old.local slot (newly prepared (prepared_at self.old.local.slots slot)))) }
+        ensures outs { OnOk result (outs.new ≡ outs.old
+            ++ (commit_outs self.old.roster self.old.me self.old.local.view slot (newly prepared (prepared_at self.old.local.slots slot))
+            ++ certified_outs self.old.me self.old.local slot (newly committed (committed_at self.old.local.slots slot)))) }
         ensures same { IsSame self.old self.new }
     {
         self.after_prepared(slot, prepared, outs)?;
@@ -224,7 +233,7 @@ impl State {
         requires { vote.signer.index < self.old.local.slots.members }
         ensures answer { IfOk result (λ told. told.answer ≡ (prepare_by self.old.roster self.old.me self.old.local vote None).answer) }
         ensures outs { IfOk result (λ told. told.outs ≡ (prepare_by self.old.roster self.old.me self.old.local vote None).outs) }
-        ensures state { OnOk result (self.new ≡ moved self.old ((prepare_by self.old.roster self.old.me self.old.local vote None).local)) }
+        ensures state { OnOk result (self.new ≡ moved self.old (prepare_by self.old.roster self.old.me self.old.local vote None).local) }
         ensures same { IsSame self.old self.new }
     {
         let slot = vote.slot;
@@ -248,9 +257,10 @@ impl State {
         requires { IsTrue (is_replica self.old.roster vote.signer) }
         ensures answer { IfOk result (λ told. told.answer ≡ (hear_prepare self.old.roster self.old.me self.old.local vote).answer) }
         ensures outs { IfOk result (λ told. told.outs ≡ (hear_prepare self.old.roster self.old.me self.old.local vote).outs) }
-        ensures state { OnOk result (self.new ≡ moved self.old ((hear_prepare self.old.roster self.old.me self.old.local vote).local)) }
+        ensures state { OnOk result (self.new ≡ moved self.old (hear_prepare self.old.roster self.old.me self.old.local vote).local) }
         ensures same { IsSame self.old self.new }
     {
+        // A replica of the own cluster has a place among its members.
         let _ = &self.me;
         match self.refusal(vote.signer.cluster, vote.view, vote.slot) {
             Some(answer) => self.refuse(Message::Prepare(vote), answer),
@@ -263,7 +273,7 @@ impl State {
         requires { vote.signer.index < self.old.local.slots.members }
         ensures answer { IfOk result (λ told. told.answer ≡ (commit_by self.old.roster self.old.me self.old.local vote None).answer) }
         ensures outs { IfOk result (λ told. told.outs ≡ (commit_by self.old.roster self.old.me self.old.local vote None).outs) }
-        ensures state { OnOk result (self.new ≡ moved self.old ((commit_by self.old.roster self.old.me self.old.local vote None).local)) }
+        ensures state { OnOk result (self.new ≡ moved self.old (commit_by self.old.roster self.old.me self.old.local vote None).local) }
         ensures same { IsSame self.old self.new }
     {
         let slot = vote.slot;
@@ -287,9 +297,10 @@ impl State {
         requires { IsTrue (is_replica self.old.roster vote.signer) }
         ensures answer { IfOk result (λ told. told.answer ≡ (hear_commit self.old.roster self.old.me self.old.local vote).answer) }
         ensures outs { IfOk result (λ told. told.outs ≡ (hear_commit self.old.roster self.old.me self.old.local vote).outs) }
-        ensures state { OnOk result (self.new ≡ moved self.old ((hear_commit self.old.roster self.old.me self.old.local vote).local)) }
+        ensures state { OnOk result (self.new ≡ moved self.old (hear_commit self.old.roster self.old.me self.old.local vote).local) }
         ensures same { IsSame self.old self.new }
     {
+        // A replica of the own cluster has a place among its members.
         let _ = &self.me;
         match self.refusal(vote.signer.cluster, vote.view, vote.slot) {
             Some(answer) => self.refuse(Message::Commit(vote), answer),
@@ -302,7 +313,7 @@ impl State {
         requires { digest ≡ batch_digest proposal.batch }
         ensures answer { IfOk result (λ told. told.answer ≡ (proposal_by self.old.roster self.old.me self.old.local proposal None).answer) }
         ensures outs { IfOk result (λ told. told.outs ≡ (proposal_by self.old.roster self.old.me self.old.local proposal None).outs) }
-        ensures state { OnOk result (self.new ≡ moved self.old ((proposal_by self.old.roster self.old.me self.old.local proposal None).local)) }
+        ensures state { OnOk result (self.new ≡ moved self.old (proposal_by self.old.roster self.old.me self.old.local proposal None).local) }
         ensures same { IsSame self.old self.new }
     {
         let slot = proposal.slot;
@@ -326,10 +337,9 @@ impl State {
         requires { IsTrue (batch_fits proposal.batch) }
         ensures answer { IfOk result (λ told. told.answer ≡ (hear_proposal self.old.roster self.old.me self.old.local proposal).answer) }
         ensures outs { IfOk result (λ told. told.outs ≡ (hear_proposal self.old.roster self.old.me self.old.local proposal).outs) }
-        ensures state { OnOk result (self.new ≡ moved self.old ((hear_proposal self.old.roster self.old.me self.old.local proposal).local)) }
+        ensures state { OnOk result (self.new ≡ moved self.old (hear_proposal self.old.roster self.old.me self.old.local proposal).local) }
         ensures same { IsSame self.old self.new }
     {
-        let _ = &self.me;
         match self.refusal(proposal.signer.cluster, proposal.view, proposal.slot) {
             Some(answer) => self.refuse(Message::PrePrepare(proposal), answer),
             None => {
