@@ -11,7 +11,7 @@ use Rattle.fab_machine.specs.Step.{step, moves}
 use Rattle.fab_machine.specs.Diaries.{diary_after}
 use Rattle.fab_machine.specs.Relation.{AreRelated}
 use Rattle.round_exec.specs.Book.{Book}
-use Rattle.replica_core.specs.Parts.{Inside}
+use Rattle.replica_core.specs.Inside.{Assembly}
 use Rattle.replica_core.specs.declared.events.Event.{Event}
 use Rattle.replica_core.specs.declared.events.Mover.{Mover}
 
@@ -23,11 +23,11 @@ pub record Machine : Type 0 where
   pub shut : Bool
 
 -- a replica of a fabric within its limits. Unless it was shut, its state is one of a replica, and local ordering isn't shut
-pub record IsCore (p : Inside) (shut : Bool) : Type 0 where
+pub record IsCore (p : Assembly) (shut : Bool) : Type 0 where
   pub limits : IsWithinLimits p.roster
   pub member : IsTrue (is_replica p.roster p.me)
   pub whole : shut ≡ false → IsReplicaState p.roster p.me p.state
-  pub open : shut ≡ false → p.stuck ≡ false
+  pub calm : shut ≡ false → p.stuck ≡ false
 
 -- the same replica, with this state
 abbrev pub with_state : Machine → Replica → Machine

@@ -5,7 +5,7 @@ ghost use Rattle.fab_rules.specs.Statements.{signer_of};
 ghost use Rattle.fab_machine.specs.Items.{same_id, is_own, with_sig, sent_item, draft_of};
 ghost use Rattle.fab_machine.specs.ReplicaState.{IsReplicaState};
 ghost use Rattle.fab_machine.specs.Step.{emit_step, first, draft};
-ghost use Rattle.replica_core.specs.Parts.{replica_of, with_state};
+ghost use Rattle.replica_core.specs.Inside.{replica_of, with_state};
 
 use crate::NoMemory;
 use crate::parts::Parts;

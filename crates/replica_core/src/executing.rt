@@ -1,12 +1,12 @@
 //! Execute: the next round, where all its certificates are kept.
-ghost use Rattle.std.specs.Prelude.{◌≡◌, false, length, IfOk, OnOk, IsTrue};
+ghost use Rattle.std.specs.Prelude.{◌≡◌, length, IfOk, OnOk, IsTrue};
 ghost use Rattle.fab_rules.specs.Ledger.{lines_with};
 ghost use Rattle.fab_machine.specs.ReplicaState.{IsReplicaState};
 ghost use Rattle.fab_rules.specs.Format.{batch_fits};
 ghost use Rattle.fab_rules.specs.Digests.{batch_digest};
 ghost use Rattle.fab_machine.specs.Rounds.{next_round};
 ghost use Rattle.fab_machine.specs.Step.{makes_entry, note_item, after_noting, own_block, execute_step};
-ghost use Rattle.replica_core.specs.Parts.{IsSame, with_state};
+ghost use Rattle.replica_core.specs.Inside.{IsSame, with_state};
 
 use crate::NoMemory;
 use crate::parts::Parts;
@@ -64,7 +64,6 @@ impl Parts {
     fn note(&mut self, round: u64) -> Result<(), NoMemory>
         requires { round ≡ self.old.state.rounds.executed }
         ensures state { OnOk result (self.new ≡ with_state self.old (after_noting self.old.me self.old.state self.old.state.rounds (own_block self.old.roster self.old.me self.old.state.rounds))) }
-        ensures open { OnOk result (self.old.stuck ≡ false) }
         ensures same { IsSame self.old self.new }
     {
         let alloc = self.alloc();

@@ -1,7 +1,6 @@
 //! One replica in view 0: it orders, executes and stays honest.
 #![tactic(auto)]
 
-mod core;
 mod emitting;
 mod events;
 mod executing;
@@ -9,10 +8,11 @@ mod hearing;
 mod making;
 mod parts;
 mod proposing;
+mod replica;
 mod stepping;
 mod taking;
 
-pub use crate::core::Core;
 pub use events::{Event, Mover};
 pub use fab_base::{Answer, Item, NoMemory};
 pub use making::core;
+pub use replica::Core;

@@ -19,9 +19,9 @@ pub(crate) struct Parts {
 
 impl Model for Parts {
     ghost use Rattle.std.specs.Prelude.{◌≡◌, length};
-    ghost use Rattle.replica_core.specs.Parts.{Inside, AreParts};
+    ghost use Rattle.replica_core.specs.Inside.{Assembly, AreParts};
 
-    ghost Value = { Inside };
+    ghost Value = { Assembly };
 
     ghost view = { λ p. record {
       roster = p.order.roster;

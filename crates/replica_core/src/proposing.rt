@@ -2,7 +2,8 @@
 ghost use Rattle.std.specs.Prelude.{◌≡◌, false, IfOk, OnOk};
 ghost use Rattle.fab_machine.specs.ReplicaState.{IsReplicaState};
 ghost use Rattle.fab_machine.specs.Step.{makes_entry, propose_step};
-ghost use Rattle.replica_core.specs.Parts.{IsSame, with_state};
+ghost use Rattle.fab_machine.specs.Rounds.{knows_others};
+ghost use Rattle.replica_core.specs.Inside.{IsSame, with_state};
 
 use crate::NoMemory;
 use crate::parts::Parts;

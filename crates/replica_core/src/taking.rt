@@ -5,7 +5,7 @@ ghost use Rattle.fab_rules.specs.Lists.{In};
 ghost use Rattle.fab_machine.specs.ReplicaState.{IsKeptCertificate};
 ghost use Rattle.fab_machine.specs.Step.{after_out, after_outs};
 ghost use Rattle.fab_machine.specs.declared.outs.Out.{Out};
-ghost use Rattle.replica_core.specs.Parts.{IsSame, with_state};
+ghost use Rattle.replica_core.specs.Inside.{IsSame, with_state};
 
 use crate::NoMemory;
 use crate::parts::Parts;

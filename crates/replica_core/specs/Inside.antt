@@ -7,7 +7,7 @@ use Rattle.fab_machine.specs.State.{Replica}
 use Rattle.local_order.specs.Ordering.{Ordering}
 use Rattle.round_exec.specs.Book.{Book}
 
-pub record Inside : Type 0 where
+pub record Assembly : Type 0 where
   pub roster : Roster
   pub me : ReplicaId
   pub state : Replica
@@ -21,11 +21,11 @@ pub record AreParts (me : ReplicaId) (o : Ordering) (b : Book) : Type 0 where
   pub clients : b.clients ≡ length o.roster.homes
 
 -- the same replica, with this state
-abbrev pub with_state : Inside → Replica → Inside
+abbrev pub with_state : Assembly → Replica → Assembly
 with_state o state = record { roster = o.roster; me = o.me; state = state; stuck = o.stuck }
 
 -- the same replica of the same members, whatever became of its state
-abbrev pub IsSame : Inside → Inside → Type 0
+abbrev pub IsSame : Assembly → Assembly → Type 0
 IsSame old new = (new.roster ≡ old.roster) × (new.me ≡ old.me)
 
 -- the replica that signs, if one does

@@ -3,7 +3,7 @@ ghost use Rattle.std.specs.Prelude.{◌≡◌, true, false, IfOk, OnOk, OnErr, I
 ghost use Rattle.std.specs.Option.{option_copied};
 ghost use Rattle.std.specs.Result.{is_ok};
 ghost use Rattle.fab_machine.specs.Step.{first, draft};
-ghost use Rattle.replica_core.specs.Cores.{with_state, IsShut, IsFor, IsEmit, moves_by, stepped, KeepsHonest, book_of};
+ghost use Rattle.replica_core.specs.Cores.{IsCore, with_state, IsShut, IsFor, IsEmit, moves_by, stepped, KeepsHonest, book_of};
 
 use crate::NoMemory;
 use crate::events::{Event, Mover};
