@@ -1,4 +1,22 @@
-//! One replica in view 0: it orders, executes and stays honest.
+//! One replica in view 0 (PBFT, section 4, and GeoBFT): it orders batches in its cluster, executes the rounds of all clusters, and
+//! replies.
+//!
+//! - [`core`] makes a [`Core`], which has heard nothing.
+//! - [`Core::step`] takes an [`Event`]: a message is heard, a batch may be proposed, an item is sent, a round may be executed. One
+//!   [`Answer`] comes out, and whatever the replica has to say waits in its outbox.
+//! - [`Core::first`] shows the item that [`Event::Emit`] sends next, and [`Core::draft`] what is to be signed of it.
+//! - [`Core::moves`] asks beforehand whether an event would do anything, and [`Core::rounds`] shows certificates and the ledger.
+//!
+//! It is a value: it knows no clock, no socket, no thread and no bytes. A message that is heard is a [`Shaped`](bft_msg::Shaped) one; whether its
+//! signatures hold was asked before.
+//!
+//! Contracts see a [`Core`] as a `Machine` (`specs/Cores`): each answer and each state is that of the machine of a replica (`fab_machine`,
+//! `Step`), and the clause `honest` of [`Core::step`] says that every diary that was related to the state stays related. From that the
+//! law of `fab_machine` has that the diary is an honest one, and `world_laws` that the ledgers of correct replicas agree.
+//!
+//! The modules: `replica` has the type and its calls, `making` makes one, `events` says what may happen. `parts` is what it is made of
+//! (`local_order`, `round_exec` and the outbox), `stepping` says which event goes where, and each event has a module of its own:
+//! `hearing`, `proposing`, `emitting`, `executing`. `taking` takes over what local ordering brings about.
 #![tactic(auto)]
 
 mod emitting;
