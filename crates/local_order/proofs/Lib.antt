@@ -1,2 +1,5 @@
 mod Members
 mod Whole
+mod Dropping
+mod Waiters
+mod Stamping
