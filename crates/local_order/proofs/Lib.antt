@@ -2,4 +2,8 @@ mod Members
 mod Whole
 mod Dropping
 mod Waiters
+mod Eligible
+mod Expected
+mod HeldBatches
+mod Refusing
 mod Stamping

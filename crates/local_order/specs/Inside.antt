@@ -1,5 +1,6 @@
 -- What the calls inside see of the ordering in a cluster: the same without the mark of a refusal.
-use Rattle.std.specs.Prelude.{◌≡◌, length, IsTrue}
+use Rattle.std.specs.Prelude.{◌≡◌, ◌≤◌, length, IsTrue}
+use Rattle.fab_base.specs.declared.limits.TheConstants.{GREATEST_NUMBER}
 use Rattle.fab_base.specs.Limits.{Roster, IsWithinLimits}
 use Rattle.fab_base.specs.Roster.{is_replica, size_of}
 use Rattle.fab_base.specs.declared.ids.ReplicaId.{ReplicaId}
@@ -16,6 +17,7 @@ pub record IsInside (o : Member) : Type 0 where
   pub limits : IsWithinLimits o.roster
   pub member : IsTrue (is_replica o.roster o.me)
   pub members : o.local.slots.members ≡ size_of o.roster o.me.cluster
+  pub low : o.local.slots.low ≤ GREATEST_NUMBER
   pub places : length o.local.prepared ≡ length o.local.slots.slots
   pub clients : length o.local.last ≡ length o.roster.homes
 

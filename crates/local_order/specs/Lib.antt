@@ -1,3 +1,4 @@
 pub mod Ordering
 pub mod Inside
 pub mod Marking
+pub mod Reasons

@@ -71,7 +71,7 @@ impl State {
     }
 
     /// The message, put for all members of the own cluster.
-    fn to_cluster(&self, message: Message) -> Result<Out, NoMemory>
+    pub(crate) fn to_cluster(&self, message: Message) -> Result<Out, NoMemory>
         ensures { IfOk result (λ out. out ≡ to_cluster self.now.roster self.now.me message) }
     {
         let to = self.cluster()?;
