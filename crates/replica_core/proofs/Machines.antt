@@ -4,7 +4,6 @@ use Rattle.std.specs.Bool.{IsTrue}
 use Rattle.fab_base.specs.Limits.{IsWithinLimits}
 use Rattle.fab_base.specs.Roster.{is_replica}
 use Rattle.fab_rules.specs.Diary.{Entry}
-use Rattle.fab_machine.specs.ReplicaState.{IsReplicaState}
 use Rattle.fab_machine.specs.Step.{Event, step}
 use Rattle.fab_machine.specs.Diaries.{MayCome, diary_after}
 use Rattle.fab_machine.specs.Relation.{AreRelated}

@@ -1,8 +1,7 @@
 -- What local ordering brings about, taken over one after another.
-use Rattle.std.proofs.Common.{◌≡◌, ℕ, zero, suc, ◌≤◌, ◌<◌, Bool, true, false, ◌&&◌, nat_eq, nat_le, nat_lt, List, [], ◌∷◌, length, inl, inr, refl, sym, ap, subst, ◌∙◌, arith}
+use Rattle.std.proofs.Common.{◌≡◌, ℕ, zero, suc, ◌≤◌, ◌<◌, true, ◌&&◌, nat_eq, nat_le, nat_lt, List, [], ◌∷◌, length, inl, inr, refl, sym, ap, subst, ◌∙◌, arith}
 use Rattle.std.specs.Bool.{IsTrue}
 use Rattle.std.specs.Prelude.{slice_index}
-use Rattle.std.specs.List.{list_all}
 use Rattle.fab_base.specs.Limits.{Roster}
 use Rattle.fab_base.specs.Roster.{home_of}
 use Rattle.fab_base.specs.declared.requests.Request.{Request}
@@ -12,7 +11,6 @@ use Rattle.fab_rules.specs.Lists.{In}
 use Rattle.fab_rules.specs.Format.{batch_fits}
 use Rattle.fab_rules.specs.Shape.{is_batch_of}
 use Rattle.fab_rules.proofs.Lists.{each_passes, all_pass}
-use Rattle.fab_machine.specs.State.{Replica}
 use Rattle.fab_machine.specs.ReplicaState.{IsKeptCertificate}
 use Rattle.fab_machine.specs.Rounds.{round_of}
 use Rattle.fab_machine.specs.Step.{after_out, after_outs}

@@ -1,4 +1,4 @@
-use Rattle.std.proofs.Common.{◌≡◌, sym, ap, subst, ◌∙◌}
+use Rattle.std.proofs.Common.{subst}
 use Rattle.fab_rules.specs.Lists.{In}
 use Rattle.fab_machine.specs.declared.outs.Out.{Out}
 use Rattle.fab_machine.proofs.States.{propose_forms_none}

@@ -1,4 +1,4 @@
-use Rattle.std.proofs.Common.{◌≡◌, false, sym, ap, subst, ◌∙◌}
+use Rattle.std.proofs.Common.{subst}
 use Rattle.replica_core.specs.Cores.{IsCore, event_of}
 use Rattle.replica_core.proofs.Machines.{core_after, honest_after}
 use Rattle.replica_core.proofs.replica.Core.step.Goals as goal
