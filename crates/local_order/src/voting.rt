@@ -260,7 +260,7 @@ impl State {
         ensures state { OnOk result (self.new ≡ moved self.old (hear_prepare self.old.roster self.old.me self.old.local vote).local) }
         ensures same { IsSame self.old self.new }
     {
-        // A replica of the own cluster has a place among its members.
+        // A sender of the own cluster has a place among its members.
         let _ = &self.me;
         match self.refusal(vote.signer.cluster, vote.view, vote.slot) {
             Some(answer) => self.refuse(Message::Prepare(vote), answer),
@@ -300,7 +300,7 @@ impl State {
         ensures state { OnOk result (self.new ≡ moved self.old (hear_commit self.old.roster self.old.me self.old.local vote).local) }
         ensures same { IsSame self.old self.new }
     {
-        // A replica of the own cluster has a place among its members.
+        // A sender of the own cluster has a place among its members.
         let _ = &self.me;
         match self.refusal(vote.signer.cluster, vote.view, vote.slot) {
             Some(answer) => self.refuse(Message::Commit(vote), answer),
