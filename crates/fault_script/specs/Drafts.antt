@@ -7,6 +7,7 @@ use Rattle.fault_script.specs.declared.faults.Why.TheVariants.{Unknown, TooMany}
 use Rattle.fault_script.specs.declared.scripts.Wish.{Wish}
 use Rattle.fault_script.specs.Checks.{and_then}
 use Rattle.fault_script.specs.Fields.{number}
+use Rattle.fault_script.specs.Settings.{Settings, default_settings, setting_of_kind}
 
 pub record Draft : Type 0 where
   -- the size of each cluster, from cluster 1 on
@@ -17,9 +18,10 @@ pub record Draft : Type 0 where
   pub stamps : List ℕ
   -- the requests
   pub wishes : List Wish
+  pub settings : Settings
 
 abbrev pub empty_draft : Draft
-empty_draft = record { sizes = []; homes = []; stamps = []; wishes = [] }
+empty_draft = record { sizes = []; homes = []; stamps = []; wishes = []; settings = default_settings }
 
 -- a cluster that is declared
 abbrev pub declared_cluster : Draft → List ℕ → Result ℕ Why
@@ -47,3 +49,7 @@ with_request draft client op =
     if nat_le stamp MOST_STAMPS
     then Ok (record draft { stamps = slice_set draft.stamps client stamp; wishes = draft.wishes ++ (record { client = record { number = client }; stamp = stamp; op = op }) ∷ [] })
     else Err TooMany
+
+-- one setting more, by the first word of its line
+abbrev pub with_setting : Draft → List ℕ → List (List ℕ) → Result Draft Why
+with_setting draft kind words = and_then (setting_of_kind draft.settings kind words) (λ settings. Ok (record draft { settings = settings }))

@@ -21,9 +21,12 @@ is_numeral word = not (nat_eq (length word) 0) && nat_le (length word) 20 && lis
 abbrev pub number : List ℕ → Result ℕ Why
 number word = if is_numeral word && nat_lt (value_of_digits word) (2 ^ 64) then Ok (value_of_digits word) else Err BadNumber
 
+abbrev pub is_within : ℕ → ℕ → ℕ → Bool
+is_within low high n = nat_le low n && nat_le n high
+
 -- a number between two limits
 abbrev pub number_within : ℕ → ℕ → List ℕ → Result ℕ Why
-number_within low high word = and_then (number word) (λ n. if nat_le low n && nat_le n high then Ok n else Err OutOfRange)
+number_within low high word = and_then (number word) (λ n. if is_within low high n then Ok n else Err OutOfRange)
 
 -- the whole of a line that sets a number between two limits: just one word, which spells such a number
 abbrev pub one_number : ℕ → ℕ → List (List ℕ) → Result ℕ Why

@@ -3,4 +3,5 @@ pub mod Drafts
 pub mod Fields
 pub mod Lines
 pub mod Scripts
+pub mod Settings
 pub mod Words

@@ -8,7 +8,7 @@ use Rattle.fault_script.specs.declared.faults.Why.TheVariants.{BadWord, Missing}
 use Rattle.fault_script.specs.Checks.{and_then}
 use Rattle.fault_script.specs.Words.{words_of, same_word, one_word, two_words, three_words}
 use Rattle.fault_script.specs.Fields.{one_number, key_of, value_of}
-use Rattle.fault_script.specs.Drafts.{Draft, declared_cluster, declared_client, with_cluster, with_client, with_request}
+use Rattle.fault_script.specs.Drafts.{Draft, declared_cluster, declared_client, with_cluster, with_client, with_request, with_setting}
 
 -- `cluster SIZE`
 abbrev pub cluster_line : Draft → List (List ℕ) → Result Draft Why
@@ -73,13 +73,13 @@ request_line draft [] = Err Missing
 request_line draft (client ∷ []) = Err Missing
 request_line draft (client ∷ kind ∷ fields) = request_of_kind draft client kind fields
 
--- the first word of a line decides the rest
+-- the first word of a line decides the rest; what declares nothing sets something
 abbrev pub line_of_kind : Draft → List ℕ → List (List ℕ) → Result Draft Why
 line_of_kind draft kind words =
     if same_word kind (codes "cluster") then cluster_line draft words
     else if same_word kind (codes "client") then client_line draft words
     else if same_word kind (codes "request") then request_line draft words
-    else Err BadWord
+    else with_setting draft kind words
 
 -- a line without words is skipped
 abbrev pub line_of_words : Draft → List (List ℕ) → Result Draft Why

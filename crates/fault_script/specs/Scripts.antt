@@ -11,6 +11,7 @@ use Rattle.fault_script.specs.declared.scripts.Script.{Script}
 use Rattle.fault_script.specs.declared.scripts.Wish.{Wish}
 use Rattle.fault_script.specs.Drafts.{Draft, empty_draft}
 use Rattle.fault_script.specs.Lines.{line}
+use Rattle.fault_script.specs.Settings.{are_settings}
 
 -- goes on from a good line, or ends at a bad one of this number
 abbrev pub after_line : ℕ → Result Draft Why → (Draft → Result Draft BadScript) → Result Draft BadScript
@@ -24,7 +25,15 @@ draft_of_lines n draft (text ∷ rest) = after_line n (line draft text) (λ next
 
 -- what the lines declare in the end
 abbrev pub script_made : Draft → Script
-script_made draft = record { sizes = draft.sizes; homes = draft.homes; requests = draft.wishes }
+script_made draft = record {
+  sizes = draft.sizes;
+  homes = draft.homes;
+  requests = draft.wishes;
+  batch = draft.settings.batch.value;
+  window = draft.settings.window.value;
+  seed = draft.settings.seed.value;
+  turns = draft.settings.turns.value;
+  height = draft.settings.height.value }
 
 abbrev pub script_read : Result Draft BadScript → Result Script BadScript
 script_read (Ok draft) = Ok (script_made draft)
@@ -45,6 +54,9 @@ IsBad ScriptFault.NoMemory P = Unit {0}
 abbrev pub is_wish : ℕ → Wish → Bool
 is_wish clients wish = nat_lt wish.client.number clients && op_fits wish.op
 
--- whether there are no more clients than there may be, and each request is one of theirs and fits
+-- whether there are no more clients than there may be, each request is one of theirs and fits, and each setting is in its range
 abbrev pub keeps_limits : Script → Bool
-keeps_limits script = nat_le (length script.homes) MOST_CLIENTS && list_all (is_wish (length script.homes)) script.requests
+keeps_limits script =
+    nat_le (length script.homes) MOST_CLIENTS
+    && (list_all (is_wish (length script.homes)) script.requests
+    && are_settings script.batch script.window script.seed script.turns script.height)

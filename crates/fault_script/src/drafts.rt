@@ -2,12 +2,15 @@
 ghost use Rattle.std.specs.Prelude.{◌≡◌, ◌<◌, ◌≤◌, length, true, IfOk};
 ghost use Rattle.fab_base.specs.Fields.{op_fits};
 ghost use Rattle.fault_script.specs.Checks.{Leaves};
-ghost use Rattle.fault_script.specs.Drafts.{empty_draft, declared_cluster, declared_client, with_cluster, with_client, with_request};
+ghost use Rattle.fault_script.specs.Drafts.{empty_draft, declared_cluster, declared_client, with_cluster, with_client, with_request, with_setting};
 ghost use Rattle.fault_script.specs.Scripts.{script_made, keeps_limits};
+ghost use Rattle.fault_script.specs.Words.{words_of};
 
 use crate::faults::{LineFault, Why};
 use crate::fields::number;
 use crate::scripts::{Script, Wish};
+use crate::settings::Settings;
+use crate::words::Words;
 use fab_base::{Bytes, ClientId, MOST_CLIENTS, MOST_STAMPS, NoMemory, Op, Rows};
 use std::alloc::Global;
 use std::marker::Model;
@@ -19,6 +22,7 @@ pub(crate) struct Draft {
     homes: Vec<u8>,
     stamps: Vec<u32>,
     wishes: Vec<Wish>,
+    settings: Settings,
 }
 
 impl Model for Draft {
@@ -30,7 +34,7 @@ impl Model for Draft {
 
     ghost Value = { Draft };
 
-    ghost view = { λ d. record { sizes = d.sizes.items; homes = d.homes.items; stamps = d.stamps.items; wishes = d.wishes.items } };
+    ghost view = { λ d. record { sizes = d.sizes.items; homes = d.homes.items; stamps = d.stamps.items; wishes = d.wishes.items; settings = d.settings } };
 
     ghost invariant = { λ d. (length d.sizes.items ≤ MOST_CLUSTERS) × (length d.stamps.items ≡ length d.homes.items) × (length d.homes.items ≤ MOST_CLIENTS) × (list_all (is_wish (length d.homes.items)) d.wishes.items ≡ true) };
 }
@@ -45,6 +49,7 @@ impl Draft {
             homes: Vec::new(alloc),
             stamps: Vec::new(alloc),
             wishes: Vec::new(alloc),
+            settings: Settings::new(),
         }
     }
 
@@ -123,6 +128,14 @@ impl Draft {
         Ok(())
     }
 
+    /// One setting more, by the first word of its line.
+    pub(crate) fn set(&mut self, kind: &[u8], words: Words<'_>) -> Result<(), LineFault>
+        ensures { Leaves result self.new (with_setting self.old kind.now (words_of words.entry.rest.now)) }
+    {
+        self.settings = self.settings.setting_of_kind(kind, words)?;
+        Ok(())
+    }
+
     /// The script that is declared.
     pub(crate) fn finish(self) -> Script
         ensures is { result ≡ script_made self }
@@ -133,11 +146,17 @@ impl Draft {
             homes,
             stamps: _,
             wishes,
+            settings,
         } = self;
         Script {
             sizes: Rows::from_vec(sizes),
             homes: Rows::from_vec(homes),
             requests: Rows::from_vec(wishes),
+            batch: settings.batch.value as u8,
+            window: settings.window.value as u8,
+            seed: settings.seed.value,
+            turns: settings.turns.value as u32,
+            height: settings.height.value as u8,
         }
     }
 }

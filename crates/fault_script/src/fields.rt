@@ -61,7 +61,8 @@ pub(crate) fn number(word: &[u8]) -> Result<u64, Why>
 
 /// A number between two limits.
 fn number_within(low: u64, high: u64, word: &[u8]) -> Result<u64, Why>
-    ensures { result ≡ number_within low high word.now }
+    ensures is { result ≡ number_within low high word.now }
+    ensures within { IfOk result (λ n. (low ≤ n) × (n ≤ high)) }
 {
     let n = number(word)?;
     if low <= n && n <= high {
@@ -73,7 +74,8 @@ fn number_within(low: u64, high: u64, word: &[u8]) -> Result<u64, Why>
 
 /// The whole of a line that sets a number between two limits: just one word, which spells such a number.
 pub(crate) fn one_number(low: u64, high: u64, words: Words<'_>) -> Result<u64, Why>
-    ensures { result ≡ one_number low high (words_of words.entry.rest.now) }
+    ensures is { result ≡ one_number low high (words_of words.entry.rest.now) }
+    ensures within { IfOk result (λ n. (low ≤ n) × (n ≤ high)) }
 {
     number_within(low, high, words.one()?)
 }

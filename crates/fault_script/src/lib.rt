@@ -1,13 +1,15 @@
 //! The reader of scripts: from bytes to what they declare, or to the first bad line and its first cause.
 //!
-//! A script is a text of lines, each a few words between spaces: `cluster 4`, `client 1`, `request 0 put KEY VALUE`. [`read`] takes
-//! one apart. Each step has a module, and a file of `specs/` that says what it means: `words` (the words of a line), `fields` (numbers,
-//! keys, values), `drafts` (what the lines so far declare), `lines` (each kind of line) and `scripts` with `reading` (a whole script).
+//! A script is a text of lines, each a few words between spaces: `cluster 4`, `client 1`, `request 0 put KEY VALUE`, `seed 7`. [`read`]
+//! takes one apart. Each step has a module, and a file of `specs/` that says what it means: `words` (the words of a line), `fields`
+//! (numbers, keys, values), `settings` (numbers that a line may set, each once), `drafts` (what the lines so far declare), `lines` (each
+//! kind of line) and `scripts` with `reading` (a whole script).
 //! Read the files of `specs/` in this order; a function of the reader answers the word of its own name there. `Checks` joins them: one
 //! check after another, of which the first that fails names its cause.
 //!
 //! How much a script may declare is bounded by constants of `fab_base`: `MOST_MEMBERS` replicas of a cluster, `MOST_CLIENTS` clients,
-//! `MOST_STAMPS` requests of each, keys of `LONGEST_KEY` bytes and values of `LONGEST_VALUE`.
+//! `MOST_STAMPS` requests of each, keys of `LONGEST_KEY` bytes and values of `LONGEST_VALUE`; a setting by `MOST_REQUESTS`, `MOST_SLOTS` and,
+//! of this crate, [`MOST_TURNS`].
 #![tactic(auto)]
 
 mod drafts;
@@ -16,8 +18,10 @@ mod fields;
 mod lines;
 mod reading;
 mod scripts;
+mod settings;
 mod words;
 
 pub use faults::{BadScript, ScriptFault, Why};
 pub use reading::read;
 pub use scripts::{Script, Wish, Wishes};
+pub use settings::MOST_TURNS;

@@ -8,7 +8,7 @@ ghost use Rattle.fault_script.specs.Lines.{cluster_line, client_line, put_line, 
 use crate::drafts::Draft;
 use crate::faults::{LineFault, Why};
 use crate::fields::{key_of, one_number, value_of};
-use crate::words::Words;
+use crate::words::{Words, same_word};
 use fab_base::{MOST_MEMBERS, Op};
 
 /// `cluster SIZE`
@@ -121,11 +121,14 @@ fn request_line(draft: &mut Draft, mut words: Words<'_>) -> Result<(), LineFault
 fn line_of_kind(draft: &mut Draft, kind: &[u8], words: Words<'_>) -> Result<(), LineFault>
     ensures { Leaves result draft.new (line_of_kind draft.old kind.now (words_of words.entry.rest.now)) }
 {
-    match kind {
-        b"cluster" => cluster_line(draft, words),
-        b"client" => client_line(draft, words),
-        b"request" => request_line(draft, words),
-        _ => Err(LineFault::Bad(Why::BadWord)),
+    if same_word(kind, b"cluster") {
+        cluster_line(draft, words)
+    } else if same_word(kind, b"client") {
+        client_line(draft, words)
+    } else if same_word(kind, b"request") {
+        request_line(draft, words)
+    } else {
+        draft.set(kind, words)
     }
 }
 

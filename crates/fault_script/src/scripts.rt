@@ -24,4 +24,14 @@ pub struct Script {
     pub homes: Bytes,
     /// The requests, in the order of the script.
     pub requests: Wishes,
+    /// The most requests of a batch: 1 to `MOST_REQUESTS`, 8 where no line sets it.
+    pub batch: u8,
+    /// How many slots above the low mark are open at once: 1 to `MOST_SLOTS`, 16 where no line sets it.
+    pub window: u8,
+    /// What a run's keys, and the choices of a simulated one, are made from: any number, 0 where no line sets it.
+    pub seed: u64,
+    /// The entries of all journals together at which a run ends as spent: 1 to `MOST_TURNS`, 100,000 where no line sets it.
+    pub turns: u32,
+    /// The height of the tree of each replica's key: 5 or 10, 10 where no line sets it.
+    pub height: u8,
 }

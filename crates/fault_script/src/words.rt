@@ -3,7 +3,7 @@ ghost use Rattle.std.specs.Prelude.{◌≡◌, ◌<◌, ◌∷◌, [], length, M
 ghost use Rattle.std.specs.List.{slice_split};
 ghost use Rattle.std.specs.Str.Lines.{lines, strip_carriage_return};
 ghost use Rattle.fault_script.specs.Checks.{Gives};
-ghost use Rattle.fault_script.specs.Words.{words_of, one_word, two_words, three_words};
+ghost use Rattle.fault_script.specs.Words.{words_of, same_word, one_word, two_words, three_words};
 
 use crate::faults::Why;
 
@@ -46,6 +46,13 @@ pub(crate) fn first_line(text: &[u8]) -> (&[u8], &[u8])
         Some((line, rest)) => (without_return(line), rest),
         None => (text, &text[text.len()..]),
     }
+}
+
+/// Whether the words are the same.
+pub(crate) fn same_word(word: &[u8], other: &[u8]) -> bool
+    ensures { result ≡ same_word word.now other.now }
+{
+    word == other
 }
 
 /// The words of a line that are still to be read.
