@@ -2,7 +2,7 @@
 use Rattle.std.proofs.Common.{◌≡◌, ℕ, ◌<◌, ◌≤◌, true, ◌&&◌, nat_lt, nat_le, List, [], ◌∷◌, length, map, sym, subst}
 use Rattle.std.proofs.lemmas.List.Elements.{All-nil, All-cons}
 use Rattle.std.specs.List.{list_all, All}
-use Rattle.fab_base.specs.declared.limits.TheConstants.{LONGEST_KEY, LONGEST_VALUE, MOST_CLIENTS}
+use Rattle.fab_base.specs.declared.limits.TheConstants.{LONGEST_KEY, LONGEST_VALUE, MOST_STAMPS}
 use Rattle.fab_base.specs.declared.requests.Request.{Request}
 use Rattle.fab_base.specs.declared.requests.Op.{Op}
 use Rattle.fab_base.specs.declared.requests.Op.TheVariants.{Put, Get, Cut, Swap}
@@ -11,7 +11,9 @@ use Rattle.fab_base.proofs.Tests.{and_left, and_right, below, at_most}
 use Rattle.seq_table.specs.Holding.{WritesShort}
 use Rattle.fault_script.specs.declared.scripts.Script.{Script}
 use Rattle.fault_script.specs.declared.scripts.Wish.{Wish}
-use Rattle.fault_script.specs.Scripts.{is_wish, keeps_limits}
+use Rattle.fault_script.specs.Fields.{is_within}
+use Rattle.fault_script.specs.Scripts.{are_sizes, are_homes, is_wish, keeps_limits}
+use Rattle.fault_script.specs.Settings.{are_settings}
 use Rattle.fabric_run.specs.Plain.{request_of, requests_of}
 
 value_short : (value : List ℕ) → bytes_fit LONGEST_VALUE value ≡ true → length value ≤ LONGEST_VALUE
@@ -27,10 +29,12 @@ op_short (Swap key expected fresh) h =
     (and_right (bytes_fit LONGEST_KEY key) (bytes_fit LONGEST_VALUE expected && bytes_fit LONGEST_VALUE fresh) h))
 
 wish_declared : (n : ℕ) (wish : Wish) → is_wish n wish ≡ true → wish.client.number < n
-wish_declared n wish h = below wish.client.number n (and_left (nat_lt wish.client.number n) (op_fits wish.op) h)
+wish_declared n wish h = below wish.client.number n (and_left (nat_lt wish.client.number n) (is_within 1 MOST_STAMPS wish.stamp && op_fits wish.op) h)
 
 wish_short : (n : ℕ) (wish : Wish) → is_wish n wish ≡ true → WritesShort wish.op
-wish_short n wish h = op_short wish.op (and_right (nat_lt wish.client.number n) (op_fits wish.op) h)
+wish_short n wish h =
+    let stamped = is_within 1 MOST_STAMPS wish.stamp in
+    op_short wish.op (and_right stamped (op_fits wish.op) (and_right (nat_lt wish.client.number n) (stamped && op_fits wish.op) h))
 
 -- what holds of each request within the limits holds of each of a script's
 requests_all : (P : Request → Type 0) (n : ℕ) → ((wish : Wish) → is_wish n wish ≡ true → P (request_of wish))
@@ -42,7 +46,11 @@ requests_all P n each (wish ∷ wishes) h =
     (requests_all P n each wishes (and_right (is_wish n wish) (list_all (is_wish n) wishes) h))
 
 all_wishes : (script : Script) → keeps_limits script ≡ true → list_all (is_wish (length script.homes)) script.requests ≡ true
-all_wishes script h = and_right (nat_le (length script.homes) MOST_CLIENTS) (list_all (is_wish (length script.homes)) script.requests) h
+all_wishes script h =
+    let clients = are_homes (length script.sizes) script.homes in
+    let requests = list_all (is_wish (length script.homes)) script.requests in
+    let settings = are_settings script.batch script.window script.seed script.turns script.height in
+    and_left requests settings (and_right clients (requests && settings) (and_right (are_sizes script.sizes) (clients && (requests && settings)) h))
 
 pub requests_declared : (script : Script) (n : ℕ) → n ≡ length script.homes → keeps_limits script ≡ true → All (λ (r : Request). r.client.number < n) (requests_of script)
 requests_declared script n e h =

@@ -1,8 +1,8 @@
 -- What the bytes of a script mean (ours): the script that they spell, or the first line that is bad and its first cause.
-use Rattle.std.specs.Prelude.{ℕ, ◌+◌, ◌&&◌, Bool, nat_le, nat_lt, List, [], ◌∷◌, length, Result, Ok, Err}
+use Rattle.std.specs.Prelude.{ℕ, ◌+◌, ◌&&◌, Bool, nat_le, nat_lt, List, [], ◌∷◌, length, sum, Result, Ok, Err}
 use Rattle.std.specs.List.{list_all}
 use Rattle.std.specs.Str.Lines.{lines}
-use Rattle.fab_base.specs.declared.limits.TheConstants.{MOST_CLIENTS}
+use Rattle.fab_base.specs.declared.limits.TheConstants.{MOST_CLUSTERS, MOST_MEMBERS, MOST_REPLICAS, MOST_CLIENTS, MOST_STAMPS}
 use Rattle.fab_base.specs.Fields.{op_fits}
 use Rattle.fault_script.specs.declared.faults.Why.{Why}
 use Rattle.fault_script.specs.declared.faults.BadScript.{BadScript}
@@ -10,6 +10,7 @@ use Rattle.fault_script.specs.declared.faults.ScriptFault.{ScriptFault}
 use Rattle.fault_script.specs.declared.scripts.Script.{Script}
 use Rattle.fault_script.specs.declared.scripts.Wish.{Wish}
 use Rattle.fault_script.specs.Drafts.{Draft, empty_draft}
+use Rattle.fault_script.specs.Fields.{is_within}
 use Rattle.fault_script.specs.Lines.{line}
 use Rattle.fault_script.specs.Settings.{are_settings}
 
@@ -50,13 +51,22 @@ IsBad ScriptFault.NoMemory P = Unit {0}
 
 -- ---- the limits that a script keeps
 
+-- whether there are no more clusters than there may be, and no more replicas of each and of all
+abbrev pub are_sizes : List ℕ → Bool
+are_sizes sizes = nat_le (length sizes) MOST_CLUSTERS && (list_all (is_within 1 MOST_MEMBERS) sizes && nat_le (sum sizes) MOST_REPLICAS)
+
+-- whether there are no more clients than there may be, each of one of so many clusters
+abbrev pub are_homes : ℕ → List ℕ → Bool
+are_homes clusters homes = nat_le (length homes) MOST_CLIENTS && list_all (is_within 1 clusters) homes
+
 -- a request of one of so many clients, whose key and values fit their fields
 abbrev pub is_wish : ℕ → Wish → Bool
-is_wish clients wish = nat_lt wish.client.number clients && op_fits wish.op
+is_wish clients wish = nat_lt wish.client.number clients && (is_within 1 MOST_STAMPS wish.stamp && op_fits wish.op)
 
--- whether there are no more clients than there may be, each request is one of theirs and fits, and each setting is in its range
+-- whether the clusters, their clients, the requests of these and the settings are within the limits
 abbrev pub keeps_limits : Script → Bool
 keeps_limits script =
-    nat_le (length script.homes) MOST_CLIENTS
+    are_sizes script.sizes
+    && (are_homes (length script.sizes) script.homes
     && (list_all (is_wish (length script.homes)) script.requests
-    && are_settings script.batch script.window script.seed script.turns script.height)
+    && are_settings script.batch script.window script.seed script.turns script.height))

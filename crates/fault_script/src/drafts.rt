@@ -1,8 +1,10 @@
 //! What the lines of a script so far declare.
 ghost use Rattle.std.specs.Prelude.{◌≡◌, ◌<◌, ◌≤◌, length, true, IfOk};
 ghost use Rattle.fab_base.specs.Fields.{op_fits};
+ghost use Rattle.fab_base.specs.declared.limits.TheConstants.{MOST_MEMBERS};
 ghost use Rattle.fault_script.specs.Checks.{Leaves};
 ghost use Rattle.fault_script.specs.Drafts.{empty_draft, declared_cluster, declared_client, with_cluster, with_client, with_request, with_setting};
+ghost use Rattle.fault_script.specs.Fields.{is_within};
 ghost use Rattle.fault_script.specs.Scripts.{script_made, keeps_limits};
 ghost use Rattle.fault_script.specs.Words.{words_of};
 
@@ -26,17 +28,16 @@ pub(crate) struct Draft {
 }
 
 impl Model for Draft {
-    ghost use Rattle.std.specs.Prelude.{◌≡◌, ◌≤◌, length, true};
+    ghost use Rattle.std.specs.Prelude.{◌≡◌, length, true};
     ghost use Rattle.std.specs.List.{list_all};
-    ghost use Rattle.fab_base.specs.declared.limits.TheConstants.{MOST_CLUSTERS, MOST_CLIENTS};
     ghost use Rattle.fault_script.specs.Drafts.{Draft};
-    ghost use Rattle.fault_script.specs.Scripts.{is_wish};
+    ghost use Rattle.fault_script.specs.Scripts.{are_sizes, are_homes, is_wish};
 
     ghost Value = { Draft };
 
     ghost view = { λ d. record { sizes = d.sizes.items; homes = d.homes.items; stamps = d.stamps.items; wishes = d.wishes.items; settings = d.settings } };
 
-    ghost invariant = { λ d. (length d.sizes.items ≤ MOST_CLUSTERS) × (length d.stamps.items ≡ length d.homes.items) × (length d.homes.items ≤ MOST_CLIENTS) × (list_all (is_wish (length d.homes.items)) d.wishes.items ≡ true) };
+    ghost invariant = { λ d. (are_sizes d.sizes.items ≡ true) × (are_homes (length d.sizes.items) d.homes.items ≡ true) × (length d.stamps.items ≡ length d.homes.items) × (list_all (is_wish (length d.homes.items)) d.wishes.items ≡ true) };
 }
 
 impl Draft {
@@ -62,7 +63,8 @@ impl Draft {
 
     /// A cluster that is declared.
     pub(crate) fn declared_cluster(&self, word: &[u8]) -> Result<u8, Why>
-        ensures { result ≡ declared_cluster self.now word.now }
+        ensures is { result ≡ declared_cluster self.now word.now }
+        ensures within { IfOk result (λ n. is_within 1 (length self.now.sizes) n ≡ true) }
     {
         let n = number(word)?;
         if n >= 1 && n <= self.sizes.len() as u64 {
@@ -86,6 +88,7 @@ impl Draft {
 
     /// One cluster more, of so many replicas.
     pub(crate) fn add_cluster(&mut self, size: u8) -> Result<(), LineFault>
+        requires { is_within 1 MOST_MEMBERS size ≡ true }
         ensures { Leaves result self.new (with_cluster self.old size) }
     {
         if !self.sizes.is_empty() {
@@ -97,6 +100,7 @@ impl Draft {
 
     /// One client more, of this cluster.
     pub(crate) fn add_client(&mut self, home: u8) -> Result<(), LineFault>
+        requires { is_within 1 (length self.old.sizes) home ≡ true }
         ensures { Leaves result self.new (with_client self.old home) }
     {
         if self.homes.len() >= MOST_CLIENTS as usize {
