@@ -34,7 +34,8 @@ script_made draft = record {
   window = draft.settings.window.value;
   seed = draft.settings.seed.value;
   turns = draft.settings.turns.value;
-  height = draft.settings.height.value }
+  height = draft.settings.height.value;
+}
 
 abbrev pub script_read : Result Draft BadScript → Result Script BadScript
 script_read (Ok draft) = Ok (script_made draft)
