@@ -12,7 +12,7 @@ use Rattle.seq_table.specs.Holding.{WritesShort}
 use Rattle.fault_script.specs.declared.scripts.Script.{Script}
 use Rattle.fault_script.specs.declared.scripts.Wish.{Wish}
 use Rattle.fault_script.specs.Fields.{is_within}
-use Rattle.fault_script.specs.Scripts.{are_sizes, are_homes, is_wish, keeps_limits}
+use Rattle.fault_script.specs.Scripts.{are_sizes, are_homes, is_wish, stamps_run, are_wishes, keeps_limits}
 use Rattle.fault_script.specs.Settings.{are_settings}
 use Rattle.fabric_run.specs.Plain.{request_of, requests_of}
 
@@ -48,9 +48,11 @@ requests_all P n each (wish ∷ wishes) h =
 all_wishes : (script : Script) → keeps_limits script ≡ true → list_all (is_wish (length script.homes)) script.requests ≡ true
 all_wishes script h =
     let clients = are_homes (length script.sizes) script.homes in
-    let requests = list_all (is_wish (length script.homes)) script.requests in
+    let each = list_all (is_wish (length script.homes)) script.requests in
+    let requests = are_wishes (length script.homes) script.requests in
     let settings = are_settings script.batch script.window script.seed script.turns script.height in
-    and_left requests settings (and_right clients (requests && settings) (and_right (are_sizes script.sizes) (clients && (requests && settings)) h))
+    and_left each (stamps_run [] script.requests)
+    (and_left requests settings (and_right clients (requests && settings) (and_right (are_sizes script.sizes) (clients && (requests && settings)) h)))
 
 pub requests_declared : (script : Script) (n : ℕ) → n ≡ length script.homes → keeps_limits script ≡ true → All (λ (r : Request). r.client.number < n) (requests_of script)
 requests_declared script n e h =

@@ -3,6 +3,7 @@ use Rattle.std.proofs.Common.{◌≡◌, ℕ, ◌+◌, ◌<◌, ◌≤◌, Bool,
 use Rattle.std.specs.List.{list_all}
 use Rattle.std.proofs.lemmas.List.Folds.{list_all-append}
 use Rattle.fab_base.specs.declared.limits.TheConstants.{MOST_MEMBERS, MOST_REPLICAS, MOST_CLIENTS, MOST_STAMPS}
+use Rattle.fab_base.specs.declared.requests.Op.{Op}
 use Rattle.fab_base.specs.Fields.{op_fits}
 use Rattle.fab_base.proofs.Tests.{and_left, and_right, and_both, below, is_below, at_most, is_at_most}
 use Rattle.fault_script.specs.declared.scripts.Wish.{Wish}
@@ -21,6 +22,16 @@ module _ {X : Type 0} (p q : X → Bool) where
 -- one more
 pub all_and_one : {X : Type 0} (p : X → Bool) (xs : List X) (x : X) → list_all p xs ≡ true → p x ≡ true → list_all p (xs ++ x ∷ []) ≡ true
 all_and_one p xs x h here = list_all-append p xs (x ∷ []) ∙ and_both (list_all p xs) (p x && true) h (and_both (p x) true here refl)
+
+-- a request fits where its parts do
+pub wish_fits : (n client stamp : ℕ) (op : Op) → client < n → 1 ≤ stamp → stamp ≤ MOST_STAMPS → op_fits op ≡ true
+    → is_wish n (record { client = record { number = client }; stamp = stamp; op = op }) ≡ true
+wish_fits n client stamp op declared low high fits =
+    and_both (nat_lt client n) (is_within 1 MOST_STAMPS stamp && op_fits op)
+    (is_below client n declared)
+    (and_both (is_within 1 MOST_STAMPS stamp) (op_fits op)
+    (and_both (nat_le 1 stamp) (nat_le stamp MOST_STAMPS) (is_at_most 1 stamp low) (is_at_most stamp MOST_STAMPS high))
+    fits)
 
 -- a request of one of n clients is one of n + 1
 is_wish_more : (n : ℕ) (wish : Wish) → is_wish n wish ≡ true → is_wish (n + 1) wish ≡ true

@@ -1,5 +1,5 @@
 -- What the bytes of a script mean (ours): the script that they spell, or the first line that is bad and its first cause.
-use Rattle.std.specs.Prelude.{ℕ, ◌+◌, ◌&&◌, Bool, nat_le, nat_lt, List, [], ◌∷◌, length, sum, Result, Ok, Err}
+use Rattle.std.specs.Prelude.{ℕ, ◌+◌, ◌<◌, ◌≡◌, ◌&&◌, Bool, true, nat_eq, nat_le, nat_lt, List, [], ◌∷◌, ◌++◌, length, filter, slice_index, sum, Result, Ok, Err}
 use Rattle.std.specs.List.{list_all}
 use Rattle.std.specs.Str.Lines.{lines}
 use Rattle.fab_base.specs.declared.limits.TheConstants.{MOST_CLUSTERS, MOST_MEMBERS, MOST_REPLICAS, MOST_CLIENTS, MOST_STAMPS}
@@ -64,10 +64,27 @@ are_homes clusters homes = nat_le (length homes) MOST_CLIENTS && list_all (is_wi
 abbrev pub is_wish : ℕ → Wish → Bool
 is_wish clients wish = nat_lt wish.client.number clients && (is_within 1 MOST_STAMPS wish.stamp && op_fits wish.op)
 
+-- how many requests are of this client
+abbrev pub count_of : ℕ → List Wish → ℕ
+count_of client wishes = length (filter (λ wish. nat_eq wish.client.number client) wishes)
+
+-- whether the stamp of each request is its number among its client's, from 1, where these stand before
+abbrev pub stamps_run : List Wish → List Wish → Bool
+stamps_run before [] = true
+stamps_run before (wish ∷ rest) = nat_eq wish.stamp (count_of wish.client.number before + 1) && stamps_run (before ++ wish ∷ []) rest
+
+-- whether the requests are of so many clients, each fits, and their stamps run from 1
+abbrev pub are_wishes : ℕ → List Wish → Bool
+are_wishes clients wishes = list_all (is_wish clients) wishes && stamps_run [] wishes
+
 -- whether the clusters, their clients, the requests of these and the settings are within the limits
 abbrev pub keeps_limits : Script → Bool
 keeps_limits script =
     are_sizes script.sizes
     && (are_homes (length script.sizes) script.homes
-    && (list_all (is_wish (length script.homes)) script.requests
+    && (are_wishes (length script.homes) script.requests
     && are_settings script.batch script.window script.seed script.turns script.height))
+
+-- the stamps are how many requests each client has
+abbrev pub AreCounts : List ℕ → List Wish → Type 0
+AreCounts stamps wishes = (client : ℕ) → client < length stamps → slice_index stamps client ≡ count_of client wishes

@@ -29,15 +29,14 @@ pub(crate) struct Draft {
 
 impl Model for Draft {
     ghost use Rattle.std.specs.Prelude.{◌≡◌, length, true};
-    ghost use Rattle.std.specs.List.{list_all};
     ghost use Rattle.fault_script.specs.Drafts.{Draft};
-    ghost use Rattle.fault_script.specs.Scripts.{are_sizes, are_homes, is_wish};
+    ghost use Rattle.fault_script.specs.Scripts.{are_sizes, are_homes, are_wishes, AreCounts};
 
     ghost Value = { Draft };
 
     ghost view = { λ d. record { sizes = d.sizes.items; homes = d.homes.items; stamps = d.stamps.items; wishes = d.wishes.items; settings = d.settings } };
 
-    ghost invariant = { λ d. (are_sizes d.sizes.items ≡ true) × (are_homes (length d.sizes.items) d.homes.items ≡ true) × (length d.stamps.items ≡ length d.homes.items) × (list_all (is_wish (length d.homes.items)) d.wishes.items ≡ true) };
+    ghost invariant = { λ d. (are_sizes d.sizes.items ≡ true) × (are_homes (length d.sizes.items) d.homes.items ≡ true) × (length d.stamps.items ≡ length d.homes.items) × (are_wishes (length d.homes.items) d.wishes.items ≡ true) × AreCounts d.stamps.items d.wishes.items };
 }
 
 impl Draft {

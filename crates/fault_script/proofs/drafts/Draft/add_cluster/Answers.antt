@@ -12,4 +12,5 @@ invariant_of-self-2 c =
       subst (λ l. are_homes (length l) c.self.inside.homes.items ≡ true) (sym pushed) (homes_after_one old c.self.inside.homes.items c.args.size c.self.invariant.1),
       c.self.invariant.2,
       c.self.invariant.3,
+      c.self.invariant.4,
     )
