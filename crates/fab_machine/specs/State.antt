@@ -30,7 +30,8 @@ pub record Local : Type 0 where
   -- the next slot to propose, and what was proposed in this view and isn't executed
   pub next : ℕ
   pub proposed : List Proposed
-  -- the requests that wait, by stamp and then client; for each client the last stamp that took effect; the number of executed rounds
+  -- the requests that wait, by stamp and then client; for each client whose home is here the last stamp that took effect; the number of
+  -- executed rounds
   pub waiting : List Request
   pub last : List ℕ
   pub executed : ℕ

@@ -51,7 +51,7 @@ impl Order {
         ensures answer { IfOk result (λ told. told.answer ≡ (hear self.old.roster self.old.me self.old.local message).answer) }
         ensures outs { IfOk result (λ told. told.outs ≡ (hear self.old.roster self.old.me self.old.local message).outs) }
         ensures state { OnOk result (self.new ≡ with_local self.old (hear self.old.roster self.old.me self.old.local message).local) }
-        ensures open { OnOk result (self.old.shut ≡ false) }
+        ensures live { OnOk result (self.old.shut ≡ false) }
         ensures err { OnErr result (IsShut self.old self.new) }
     {
         if self.shut {
@@ -70,7 +70,7 @@ impl Order {
         ensures answer { IfOk result (λ told. told.answer ≡ (propose self.old.roster self.old.me self.old.local nudged known).answer) }
         ensures outs { IfOk result (λ told. told.outs ≡ (propose self.old.roster self.old.me self.old.local nudged known).outs) }
         ensures state { OnOk result (self.new ≡ with_local self.old (propose self.old.roster self.old.me self.old.local nudged known).local) }
-        ensures open { OnOk result (self.old.shut ≡ false) }
+        ensures live { OnOk result (self.old.shut ≡ false) }
         ensures err { OnErr result (IsShut self.old self.new) }
     {
         if self.shut {
@@ -87,7 +87,7 @@ impl Order {
     pub fn served(&mut self, round: u64, batch: &Batch, outcomes: &Outcomes) -> Result<(), NoMemory>
         requires { IsTrue (list_all (λ x. nat_lt x.client.number (length self.old.roster.homes)) batch.now) }
         ensures state { OnOk result (self.new ≡ with_local self.old (served self.old.local round batch.now outcomes.now)) }
-        ensures open { IsTrue (is_ok result) ↔ (self.old.shut ≡ false) }
+        ensures live { IsTrue (is_ok result) ↔ (self.old.shut ≡ false) }
         ensures err { OnErr result (self.new ≡ self.old) }
     {
         if self.shut {

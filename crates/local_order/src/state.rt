@@ -34,7 +34,8 @@ pub(crate) struct State {
     /// The next slot to propose, and what was proposed in the view and isn't executed.
     pub(crate) next: u64,
     pub(crate) proposed: Vec<Proposed>,
-    /// The requests that wait, by stamp and then client; for each client the last stamp that took effect; the executed rounds.
+    /// The requests that wait, by stamp and then client; for each client whose home is here the last stamp that took effect; the executed
+    /// rounds.
     pub(crate) waiting: Vec<Request>,
     pub(crate) last: Vec<u32>,
     pub(crate) executed: u64,

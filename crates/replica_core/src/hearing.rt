@@ -20,7 +20,7 @@ impl Parts {
         requires whole { IsReplicaState self.old.roster self.old.me self.old.state }
         ensures answer { IfOk result (λ answer. answer ≡ (step self.old.roster self.old.me self.old.state (Event.Hear message)).answer) }
         ensures state { OnOk result (self.new ≡ with_state self.old (step self.old.roster self.old.me self.old.state (Event.Hear message)).state) }
-        ensures open { OnOk result (self.old.stuck ≡ false) }
+        ensures live { OnOk result (self.old.stuck ≡ false) }
         ensures same { IsSame self.old self.new }
     {
         let told = self.order.hear(message)?;

@@ -23,7 +23,7 @@ impl Parts {
         requires { IsReplicaState self.old.roster self.old.me self.old.state }
         ensures answer { IfOk result (λ answer. answer ≡ (propose_step self.old.roster self.old.me self.old.state nudged).answer) }
         ensures state { OnOk result (self.new ≡ with_state self.old (propose_step self.old.roster self.old.me self.old.state nudged).state) }
-        ensures open { OnOk result (self.old.stuck ≡ false) }
+        ensures live { OnOk result (self.old.stuck ≡ false) }
         ensures same { IsSame self.old self.new }
     {
         let known = self.knows_others();

@@ -58,7 +58,7 @@ impl Core {
         requires { IsFor self.old.roster event }
         ensures answer { IfOk result (λ answer. answer ≡ (stepped self.old event).answer) }
         ensures state { OnOk result (self.new ≡ with_state self.old (stepped self.old event).state) }
-        ensures open { OnOk result (self.old.shut ≡ false) }
+        ensures live { OnOk result (self.old.shut ≡ false) }
         ensures err { OnErr result (IsShut self.old self.new) }
         ensures emits { IsEmit event → self.old.shut ≡ false → IsTrue (is_ok result) }
         ensures honest { OnOk result (KeepsHonest self.old event self.new) }
