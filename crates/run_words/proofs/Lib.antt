@@ -1,0 +1,12 @@
+pub mod Keys
+pub mod Walks
+pub mod Clocks
+pub mod Replays
+pub mod Signing
+pub mod Tellings
+pub mod Sounds
+pub mod Counts
+pub mod Steps
+pub mod Naming
+pub mod Keeping
+pub mod Unique
