@@ -63,13 +63,18 @@ impl Desk {
         Ok(format!(in self.alloc; "{replicas} replicas")?)
     }
 
+    /// What rounds came to.
     fn look(&self, line: &str) -> Text {
-        match (at(line, 1), &self.fabric) {
-            ("alone", _) => looking::answer(self.alloc, self.alone.rounds(), line),
-            (id, Some(fabric)) => {
-                looking::answer(self.alloc, fabric.node(replica(id)?)?.rounds(), line)
+        let id = at(line, 1);
+        if id == "alone" {
+            return looking::answer(self.alloc, self.alone.rounds(), line);
+        }
+        match &self.fabric {
+            Some(fabric) => {
+                let node = fabric.node(replica(id)?)?;
+                looking::answer(self.alloc, node.rounds(), line)
             }
-            _ => Err(Unanswered::Unreadable),
+            None => Err(Unanswered::Unreadable),
         }
     }
 

@@ -80,9 +80,11 @@ impl Fabric {
         }
         let home = self.members.home(request.client);
         let mut copies = 0usize;
-        for node in self.nodes.iter_mut().filter(|node| node.id.cluster == home) {
-            node.post(Message::Request(request.duplicate()?))?;
-            copies = copies.saturating_add(1);
+        for node in self.nodes.iter_mut() {
+            if node.id.cluster == home {
+                node.post(Message::Request(request.duplicate()?))?;
+                copies = copies.saturating_add(1);
+            }
         }
         Ok(copies)
     }
