@@ -1,6 +1,6 @@
 //! The requests that were declared, and batches of them.
 ghost use Rattle.std.specs.Prelude.{IfOk, IsTrue};
-ghost use Rattle.fab_rules.specs.Format.{batch_fits};
+ghost use Rattle.fab_rules.specs.Format.{batch_fits, fits};
 
 use crate::words::{Text, Unanswered, at, bytes, plain, small, stamp};
 use bft_msg::fits;
@@ -91,11 +91,20 @@ fn fitting(alloc: Global, batch: Batch) -> Result<Batch, Unanswered>
         batch,
         votes: Rows::new(alloc),
     });
-    if !fits(&message) {
-        return Err(Unanswered::Unreadable);
+    if fits(&message) {
+        batch_of(message)
+    } else {
+        Err(Unanswered::Unreadable)
     }
+}
+
+/// The batch of a certificate.
+fn batch_of(message: Message) -> Result<Batch, Unanswered>
+    requires { IsTrue (fits message) }
+    ensures { IfOk result (λ batch. IsTrue (batch_fits batch)) }
+{
     match message {
         Message::Share(share) => Ok(share.batch),
-        _ => Err(Unanswered::Unreadable),
+        _other => Err(Unanswered::Unreadable),
     }
 }
