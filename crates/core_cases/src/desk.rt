@@ -4,12 +4,11 @@ use crate::declared::Declared;
 use crate::fabric::Fabric;
 use crate::looking;
 use crate::messages::message;
-use crate::node::{Node, Turn};
+use crate::node::{Node, Seat, Turn};
 use crate::rounds::Alone;
-use crate::words::{Text, Unanswered, at, plain, replica, shown};
+use crate::words::{Text, Unanswered, at, plain, replica};
 use fab_base::{NoMemory, ReplicaId};
-use replica_core::{Answer, Mover};
-use round_exec::Rounds;
+use replica_core::Mover;
 use std::alloc::Global;
 
 /// What the cases so far have declared and begun.
@@ -72,7 +71,7 @@ impl Desk {
         match &self.fabric {
             Some(fabric) => {
                 let node = fabric.node(replica(id)?)?;
-                looking::answer(self.alloc, node.rounds(), line)
+                looking::answer(self.alloc, node.seat.rounds(), line)
             }
             None => Err(Unanswered::Unreadable),
         }
@@ -104,7 +103,7 @@ fn of_replica(alloc: Global, fabric: &mut Fabric, declared: &Declared, line: &st
     match at(line, 0) {
         "hear" => {
             let message = message(alloc, declared, line)?;
-            answer_words(alloc, &fabric.node_mut(id)?.hear(message)?)
+            answer_words(alloc, &fabric.node_mut(id)?.seat.hear(message)?)
         }
         "next" => mail(alloc, fabric, id, Turn::Oldest),
         "last" => mail(alloc, fabric, id, Turn::Newest),
@@ -120,35 +119,37 @@ fn of_replica(alloc: Global, fabric: &mut Fabric, declared: &Declared, line: &st
 fn mail(alloc: Global, fabric: &mut Fabric, id: ReplicaId, turn: Turn) -> Text {
     let node = fabric.node_mut(id)?;
     match node.take(turn) {
-        Some(message) => answer_words(alloc, &node.hear(message)?),
+        Some(message) => answer_words(alloc, &node.seat.hear(message)?),
         None => plain(alloc, "None"),
     }
 }
 
 /// An event of its own. What is sent is delivered.
 fn act(alloc: Global, fabric: &mut Fabric, id: ReplicaId, mover: Mover) -> Text {
-    let answer = fabric.node_mut(id)?.act(mover)?;
+    let answer = fabric.node_mut(id)?.seat.act(mover)?;
     fabric.deliver(&answer)?;
     answer_words(alloc, &answer)
 }
 
 /// What waits at it.
 fn waiting(alloc: Global, node: &Node, word: &str) -> Text {
-    let core = node.core();
     match word {
-        "first" => match core.first() {
+        "first" => match node.seat.first() {
             Some(item) => item_words(alloc, item),
             None => plain(alloc, "None"),
         },
-        "draft" => match core.draft()? {
-            Some(content) => Ok(format!(in alloc; "{} bytes", content.len())?),
+        "draft" => match node.seat.draft()? {
+            Some(length) => Ok(format!(in alloc; "{length} bytes")?),
             None => plain(alloc, "None"),
         },
-        "moves" => {
-            let (batch, nudge) = (core.moves(Mover::Batch), core.moves(Mover::Nudge));
-            let (emit, execute) = (core.moves(Mover::Emit), core.moves(Mover::Execute));
-            Ok(format!(in alloc; "batch {batch}, nudge {nudge}, emit {emit}, execute {execute}")?)
-        }
+        "moves" => moves(alloc, &node.seat),
         _ => Err(Unanswered::Unreadable),
     }
+}
+
+/// Which events would make an entry.
+fn moves(alloc: Global, seat: &Seat) -> Text {
+    let (batch, nudge) = (seat.would(Mover::Batch), seat.would(Mover::Nudge));
+    let (emit, execute) = (seat.would(Mover::Emit), seat.would(Mover::Execute));
+    Ok(format!(in alloc; "batch {batch}, nudge {nudge}, emit {emit}, execute {execute}")?)
 }

@@ -1,6 +1,6 @@
 //! All replicas of a fabric.
 use crate::limits::is_within_limits;
-use crate::node::{Node, Turn};
+use crate::node::{Node, Seat, Turn};
 use crate::words::{Text, Unanswered, at, plain, small, smalls};
 use fab_base::{
     Duplicate, Item, MOST_CLUSTERS, MOST_MEMBERS, Members, Message, ReplicaId, Request, Who,
@@ -8,6 +8,7 @@ use fab_base::{
 };
 use replica_core::Answer;
 use std::alloc::Global;
+use std::collections::VecDeque;
 
 /// After so many passes over the replicas a fabric isn't waited for any more.
 const MOST_PASSES: u32 = 100_000;
@@ -41,7 +42,9 @@ impl Fabric {
             for index in 0..MOST_MEMBERS {
                 let id = ReplicaId { cluster, index };
                 if members.has(Who::Replica(id)) {
-                    nodes.push(Node::new(alloc, &members, id)?)?;
+                    let seat = Seat::new(alloc, &members, id)?;
+                    let mail = VecDeque::new(alloc);
+                    nodes.push(Node { id, seat, mail })?;
                 }
             }
         }
@@ -82,7 +85,8 @@ impl Fabric {
         let mut copies = 0usize;
         for node in self.nodes.iter_mut() {
             if node.id.cluster == home {
-                node.post(Message::Request(request.duplicate()?))?;
+                let copy = Message::Request(request.duplicate()?);
+                node.mail.push_back(copy)?;
                 copies = copies.saturating_add(1);
             }
         }
@@ -93,7 +97,8 @@ impl Fabric {
     pub(crate) fn deliver(&mut self, answer: &Answer) -> Result<(), Unanswered> {
         if let Answer::Sent(Item { message, to }) = answer {
             for id in to.as_slice() {
-                self.node_mut(*id)?.post(message.duplicate()?)?;
+                let copy = message.duplicate()?;
+                self.node_mut(*id)?.mail.push_back(copy)?;
             }
         }
         Ok(())

@@ -1,11 +1,11 @@
 //! One replica with its mail.
-ghost use Rattle.std.specs.Prelude.{◌≡◌, IsTrue};
+ghost use Rattle.std.specs.Prelude.{◌≡◌, IfOk, IsTrue};
 ghost use Rattle.fab_base.specs.Roster.{is_replica};
 
 use crate::words::Unanswered;
-use bft_msg::{fits, shape};
+use bft_msg::{Shaped, fits, shape};
 use fab_base::{Bytes, Members, Message, NoMemory, ReplicaId};
-use replica_core::{Answer, Core, Event, Mover, core};
+use replica_core::{Answer, Core, Event, Item, Mover, core};
 use round_exec::Rounds;
 use std::alloc::Global;
 use std::collections::VecDeque;
@@ -25,53 +25,37 @@ pub(crate) enum Turn {
 #[derive(Drop)]
 pub(crate) struct Node {
     pub(crate) id: ReplicaId,
+    pub(crate) seat: Seat,
+    pub(crate) mail: VecDeque<Message>,
+}
+
+/// A replica with a handle to its members.
+#[derive(Drop)]
+pub(crate) struct Seat {
     alloc: Global,
     members: Members,
     core: Core,
-    mail: VecDeque<Message>,
     ghost its_members: { core.roster ≡ members },
 }
 
-impl Node {
-    /// A replica of the members that has heard nothing, without mail.
-    pub(crate) fn new(alloc: Global, members: &Members, id: ReplicaId) -> Result<Node, NoMemory>
+impl Seat {
+    /// A replica of the members that has heard nothing.
+    pub(crate) fn new(alloc: Global, members: &Members, id: ReplicaId) -> Result<Seat, NoMemory>
         requires { IsTrue (is_replica members.now id) }
     {
         let core = core(alloc, members.share()?, id)?;
         let members = members.share()?;
-        Ok(Node {
-            id,
+        Ok(Seat {
             alloc,
             members,
             core,
-            mail: VecDeque::new(alloc),
         })
-    }
-
-    /// Mail comes.
-    pub(crate) fn post(&mut self, message: Message) -> Result<(), Unanswered> {
-        self.mail.push_back(message)?;
-        Ok(())
-    }
-
-    /// The oldest or the newest of the mail, which is taken out.
-    pub(crate) fn take(&mut self, turn: Turn) -> Option<Message> {
-        match turn {
-            Turn::Oldest => self.mail.pop_front(),
-            Turn::Newest => self.mail.pop_back(),
-            Turn::Nudge => None,
-        }
     }
 
     /// Hears a message, if it is well formed.
     pub(crate) fn hear(&mut self, message: Message) -> Result<Answer, Unanswered> {
-        if !fits(&message) {
-            return Err(Unanswered::Unreadable);
-        }
-        match shape(self.members.share()?, message) {
-            Ok(shaped) => Ok(self.core.step(Event::Hear(shaped))?),
-            Err((misfit, _)) => Err(Unanswered::Misshapen(misfit)),
-        }
+        let shaped = shaped(&self.members, message)?;
+        Ok(self.core.step(Event::Hear(shaped))?)
     }
 
     /// The event.
@@ -90,33 +74,71 @@ impl Node {
     /// The first of these events that would make an entry, if there is one.
     fn act_first(&mut self, movers: &[Mover]) -> Result<Option<Answer>, Unanswered> {
         for mover in movers {
-            if self.core.moves(*mover) {
+            if self.would(*mover) {
                 return Ok(Some(self.act(*mover)?));
             }
         }
         Ok(None)
     }
 
-    /// One event of this turn, if there is one.
-    pub(crate) fn turn(&mut self, turn: Turn) -> Result<Option<Answer>, Unanswered> {
-        if let Some(message) = self.take(turn) {
-            return Ok(Some(self.hear(message)?));
-        }
-        match turn {
-            Turn::Nudge => self.act_first(&[Mover::Nudge]),
-            Turn::Oldest | Turn::Newest => {
-                self.act_first(&[Mover::Batch, Mover::Emit, Mover::Execute])
-            }
-        }
+    /// Whether the event would make an entry.
+    pub(crate) fn would(&self, mover: Mover) -> bool {
+        self.core.moves(mover)
     }
 
-    /// The replica.
-    pub(crate) fn core(&self) -> &Core {
-        &self.core
+    /// The first item that waits.
+    pub(crate) fn first(&self) -> Option<&Item> {
+        self.core.first()
+    }
+
+    /// How many bytes of it are to be signed.
+    pub(crate) fn draft(&self) -> Result<Option<usize>, NoMemory> {
+        match self.core.draft()? {
+            Some(content) => Ok(Some(content.len())),
+            None => Ok(None),
+        }
     }
 
     /// What it keeps of the rounds.
     pub(crate) fn rounds(&self) -> &Rounds {
         self.core.rounds()
+    }
+}
+
+impl Node {
+    /// The oldest or the newest of the mail, which is taken out.
+    pub(crate) fn take(&mut self, turn: Turn) -> Option<Message> {
+        match turn {
+            Turn::Oldest => self.mail.pop_front(),
+            Turn::Newest => self.mail.pop_back(),
+            Turn::Nudge => None,
+        }
+    }
+
+    /// One event of this turn, if there is one.
+    pub(crate) fn turn(&mut self, turn: Turn) -> Result<Option<Answer>, Unanswered> {
+        if let Some(message) = self.take(turn) {
+            return Ok(Some(self.seat.hear(message)?));
+        }
+        match turn {
+            Turn::Nudge => self.seat.act_first(&[Mover::Nudge]),
+            Turn::Oldest | Turn::Newest => {
+                self.seat
+                    .act_first(&[Mover::Batch, Mover::Emit, Mover::Execute])
+            }
+        }
+    }
+}
+
+/// The message, where it is well formed for the members.
+fn shaped(members: &Members, message: Message) -> Result<Shaped, Unanswered>
+    ensures { IfOk result (λ shaped. shaped.members ≡ members.now) }
+{
+    if !fits(&message) {
+        return Err(Unanswered::Unreadable);
+    }
+    match shape(members.share()?, message) {
+        Ok(shaped) => Ok(shaped),
+        Err((misfit, _)) => Err(Unanswered::Misshapen(misfit)),
     }
 }
