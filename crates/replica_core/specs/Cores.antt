@@ -37,6 +37,10 @@ with_state m state = record { roster = m.roster; me = m.me; state = state; shut 
 abbrev pub IsShut : Machine → Machine → Type 0
 IsShut old new = (new.roster ≡ old.roster) × (new.me ≡ old.me) × (new.shut ≡ true)
 
+-- the same replica of the same members, whatever became of its state
+abbrev pub IsSame : Machine → Machine → Type 0
+IsSame old new = (new.roster ≡ old.roster) × (new.me ≡ old.me)
+
 -- ---- events, as the machine of a replica has them
 
 abbrev pub event_of : Event → machine.Event

@@ -3,7 +3,7 @@ ghost use Rattle.std.specs.Prelude.{◌≡◌, true, false, IfOk, OnOk, OnErr, I
 ghost use Rattle.std.specs.Option.{option_copied};
 ghost use Rattle.std.specs.Result.{is_ok};
 ghost use Rattle.fab_machine.specs.Step.{first, draft};
-ghost use Rattle.replica_core.specs.Cores.{IsCore, with_state, IsShut, IsFor, IsEmit, moves_by, stepped, KeepsHonest, book_of};
+ghost use Rattle.replica_core.specs.Cores.{IsCore, with_state, IsShut, IsSame, IsFor, IsEmit, moves_by, stepped, KeepsHonest, book_of};
 
 use crate::NoMemory;
 use crate::events::{Event, Mover};
@@ -60,6 +60,7 @@ impl Core {
         ensures state { OnOk result (self.new ≡ with_state self.old (stepped self.old event).state) }
         ensures live { OnOk result (self.old.shut ≡ false) }
         ensures err { OnErr result (IsShut self.old self.new) }
+        ensures same { IsSame self.old self.new }
         ensures emits { IsEmit event → self.old.shut ≡ false → IsTrue (is_ok result) }
         ensures honest { OnOk result (KeepsHonest self.old event self.new) }
     {

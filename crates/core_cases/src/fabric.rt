@@ -1,0 +1,136 @@
+//! All replicas of a fabric.
+use crate::limits::is_within_limits;
+use crate::node::{Node, Seat, Turn};
+use crate::words::{Text, Unanswered, at, plain, small, smalls};
+use fab_base::{
+    Duplicate, Item, MOST_CLUSTERS, MOST_MEMBERS, Members, Message, ReplicaId, Request, Who,
+    members,
+};
+use replica_core::Answer;
+use std::alloc::Global;
+use std::collections::VecDeque;
+
+/// After so many passes over the replicas a fabric isn't waited for any more.
+const MOST_PASSES: u32 = 100_000;
+
+/// The replicas of a fabric, by rising id.
+#[derive(Drop)]
+pub(crate) struct Fabric {
+    alloc: Global,
+    members: Members,
+    nodes: Vec<Node>,
+}
+
+impl Fabric {
+    /// The fabric that a line names.
+    pub(crate) fn read(alloc: Global, line: &str) -> Result<Fabric, Unanswered> {
+        let sizes = smalls(alloc, at(line, 1))?;
+        let homes = smalls(alloc, at(line, 2))?;
+        let window = small(at(line, 3))?;
+        let batch = small(at(line, 4))?;
+        if !is_within_limits(&sizes, &homes, window, batch) {
+            return Err(Unanswered::Unreadable);
+        }
+        let members = members(alloc, &sizes, &homes, window, 1, batch)?;
+        Fabric::of(alloc, members)
+    }
+
+    /// The fabric of these members.
+    fn of(alloc: Global, members: Members) -> Result<Fabric, Unanswered> {
+        let mut nodes = Vec::new(alloc);
+        for cluster in 1..=MOST_CLUSTERS {
+            for index in 0..MOST_MEMBERS {
+                let id = ReplicaId { cluster, index };
+                if members.has(Who::Replica(id)) {
+                    let seat = Seat::new(alloc, &members, id)?;
+                    let mail = VecDeque::new(alloc);
+                    nodes.push(Node { id, seat, mail })?;
+                }
+            }
+        }
+        Ok(Fabric {
+            alloc,
+            members,
+            nodes,
+        })
+    }
+
+    /// How many replicas there are.
+    pub(crate) fn len(&self) -> usize {
+        self.nodes.len()
+    }
+
+    /// The replica of this id.
+    pub(crate) fn node(&self, id: ReplicaId) -> Result<&Node, Unanswered> {
+        match self.nodes.iter().find(|node| node.id == id) {
+            Some(node) => Ok(node),
+            None => Err(Unanswered::Unreadable),
+        }
+    }
+
+    /// The same, to change it.
+    pub(crate) fn node_mut(&mut self, id: ReplicaId) -> Result<&mut Node, Unanswered> {
+        match self.nodes.iter_mut().find(|node| node.id == id) {
+            Some(node) => Ok(node),
+            None => Err(Unanswered::Unreadable),
+        }
+    }
+
+    /// A copy of a request goes to each replica of its client's home. Answers how many these are.
+    pub(crate) fn send(&mut self, request: Request) -> Result<usize, Unanswered> {
+        if !self.members.has(Who::Client(request.client)) {
+            return Err(Unanswered::Unreadable);
+        }
+        let home = self.members.home(request.client);
+        let mut copies = 0usize;
+        for node in self.nodes.iter_mut() {
+            if node.id.cluster == home {
+                let copy = Message::Request(request.duplicate()?);
+                node.mail.push_back(copy)?;
+                copies = copies.saturating_add(1);
+            }
+        }
+        Ok(copies)
+    }
+
+    /// What was sent goes to the mail of its receivers.
+    pub(crate) fn deliver(&mut self, answer: &Answer) -> Result<(), Unanswered> {
+        if let Answer::Sent(Item { message, to }) = answer {
+            for id in to.as_slice() {
+                let copy = message.duplicate()?;
+                self.node_mut(*id)?.mail.push_back(copy)?;
+            }
+        }
+        Ok(())
+    }
+
+    /// One event of each replica that has one in this turn. Answers how many there were.
+    fn pass(&mut self, turn: Turn) -> Result<u32, Unanswered> {
+        let mut events = 0u32;
+        for place in 0..self.nodes.len() {
+            if let Some(node) = self.nodes.get_mut(place)
+                && let Some(answer) = node.turn(turn)?
+            {
+                self.deliver(&answer)?;
+                events = events.saturating_add(1);
+            }
+        }
+        Ok(events)
+    }
+
+    /// Passes until nothing moves. Answers how many events there were.
+    pub(crate) fn settle(&mut self, mail: Turn) -> Text {
+        let mut events = 0u32;
+        for _ in 0..MOST_PASSES {
+            let mut more = self.pass(mail)?;
+            if more == 0 {
+                more = self.pass(Turn::Nudge)?;
+            }
+            if more == 0 {
+                return Ok(format!(in self.alloc; "{events} events")?);
+            }
+            events = events.saturating_add(more);
+        }
+        plain(self.alloc, "not settled")
+    }
+}

@@ -1,0 +1,54 @@
+//! The messages that are fed by hand.
+use crate::declared::Declared;
+use crate::words::{Unanswered, at, number, replica, small};
+use bft_msg::batch_digest;
+use fab_base::{Ask, Bytes, Message, PrePrepare, Vote};
+use std::alloc::Global;
+
+/// The message that the words from place 2 on tell of.
+pub(crate) fn message(
+    alloc: Global,
+    declared: &Declared,
+    line: &str,
+) -> Result<Message, Unanswered> {
+    match at(line, 2) {
+        "request" => Ok(Message::Request(declared.request(at(line, 3))?)),
+        "preprepare" => Ok(Message::PrePrepare(proposal(alloc, declared, line)?)),
+        "prepare" => Ok(Message::Prepare(vote(alloc, declared, line)?)),
+        "commit" => Ok(Message::Commit(vote(alloc, declared, line)?)),
+        "fetch" => Ok(Message::Fetch(ask(line)?)),
+        _ => Err(Unanswered::Unreadable),
+    }
+}
+
+/// A proposal.
+fn proposal(alloc: Global, declared: &Declared, line: &str) -> Result<PrePrepare, Unanswered> {
+    Ok(PrePrepare {
+        signer: replica(at(line, 3))?,
+        view: number(at(line, 4))?,
+        slot: number(at(line, 5))?,
+        batch: declared.batch(at(line, 6))?,
+        sig: Bytes::new(alloc),
+    })
+}
+
+/// A vote, for the digest of a batch.
+fn vote(alloc: Global, declared: &Declared, line: &str) -> Result<Vote, Unanswered> {
+    let batch = declared.batch(at(line, 6))?;
+    Ok(Vote {
+        signer: replica(at(line, 3))?,
+        view: number(at(line, 4))?,
+        slot: number(at(line, 5))?,
+        digest: batch_digest(&batch),
+        sig: Bytes::new(alloc),
+    })
+}
+
+/// A question for a certificate.
+fn ask(line: &str) -> Result<Ask, Unanswered> {
+    Ok(Ask {
+        asker: replica(at(line, 3))?,
+        cluster: small(at(line, 4))?,
+        round: number(at(line, 5))?,
+    })
+}

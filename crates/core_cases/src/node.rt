@@ -1,0 +1,144 @@
+//! One replica with its mail.
+ghost use Rattle.std.specs.Prelude.{◌≡◌, IfOk, IsTrue};
+ghost use Rattle.fab_base.specs.Roster.{is_replica};
+
+use crate::words::Unanswered;
+use bft_msg::{Shaped, fits, shape};
+use fab_base::{Bytes, Members, Message, NoMemory, ReplicaId};
+use replica_core::{Answer, Core, Event, Item, Mover, core};
+use round_exec::Rounds;
+use std::alloc::Global;
+use std::collections::VecDeque;
+
+/// What moves a replica in a pass over all of them.
+#[derive(Clone, Copy, Drop)]
+pub(crate) enum Turn {
+    /// The oldest of its mail, or else what moves by itself.
+    Oldest,
+    /// The newest of its mail, or else what moves by itself.
+    Newest,
+    /// A nudge.
+    Nudge,
+}
+
+/// A replica, and the messages that came to it.
+#[derive(Drop)]
+pub(crate) struct Node {
+    pub(crate) id: ReplicaId,
+    pub(crate) seat: Seat,
+    pub(crate) mail: VecDeque<Message>,
+}
+
+/// A replica with a handle to its members.
+#[derive(Drop)]
+pub(crate) struct Seat {
+    alloc: Global,
+    members: Members,
+    core: Core,
+    ghost its_members: { core.roster ≡ members },
+}
+
+impl Seat {
+    /// A replica of the members that has heard nothing.
+    pub(crate) fn new(alloc: Global, members: &Members, id: ReplicaId) -> Result<Seat, NoMemory>
+        requires { IsTrue (is_replica members.now id) }
+    {
+        let core = core(alloc, members.share()?, id)?;
+        let members = members.share()?;
+        Ok(Seat {
+            alloc,
+            members,
+            core,
+        })
+    }
+
+    /// Hears a message, if it is well formed.
+    pub(crate) fn hear(&mut self, message: Message) -> Result<Answer, Unanswered> {
+        let shaped = shaped(&self.members, message)?;
+        Ok(self.core.step(Event::Hear(shaped))?)
+    }
+
+    /// The event.
+    pub(crate) fn act(&mut self, mover: Mover) -> Result<Answer, Unanswered> {
+        let event = match mover {
+            Mover::Batch => Event::Batch,
+            Mover::Nudge => Event::Nudge,
+            Mover::Emit => Event::Emit {
+                sig: Bytes::new(self.alloc),
+            },
+            Mover::Execute => Event::Execute,
+        };
+        Ok(self.core.step(event)?)
+    }
+
+    /// The first of these events that would make an entry, if there is one.
+    fn act_first(&mut self, movers: &[Mover]) -> Result<Option<Answer>, Unanswered> {
+        for mover in movers {
+            if self.would(*mover) {
+                return Ok(Some(self.act(*mover)?));
+            }
+        }
+        Ok(None)
+    }
+
+    /// Whether the event would make an entry.
+    pub(crate) fn would(&self, mover: Mover) -> bool {
+        self.core.moves(mover)
+    }
+
+    /// The first item that waits.
+    pub(crate) fn first(&self) -> Option<&Item> {
+        self.core.first()
+    }
+
+    /// How many bytes of it are to be signed.
+    pub(crate) fn draft(&self) -> Result<Option<usize>, NoMemory> {
+        match self.core.draft()? {
+            Some(content) => Ok(Some(content.len())),
+            None => Ok(None),
+        }
+    }
+
+    /// What it keeps of the rounds.
+    pub(crate) fn rounds(&self) -> &Rounds {
+        self.core.rounds()
+    }
+}
+
+impl Node {
+    /// The oldest or the newest of the mail, which is taken out.
+    pub(crate) fn take(&mut self, turn: Turn) -> Option<Message> {
+        match turn {
+            Turn::Oldest => self.mail.pop_front(),
+            Turn::Newest => self.mail.pop_back(),
+            Turn::Nudge => None,
+        }
+    }
+
+    /// One event of this turn, if there is one.
+    pub(crate) fn turn(&mut self, turn: Turn) -> Result<Option<Answer>, Unanswered> {
+        if let Some(message) = self.take(turn) {
+            return Ok(Some(self.seat.hear(message)?));
+        }
+        match turn {
+            Turn::Nudge => self.seat.act_first(&[Mover::Nudge]),
+            Turn::Oldest | Turn::Newest => {
+                self.seat
+                    .act_first(&[Mover::Batch, Mover::Emit, Mover::Execute])
+            }
+        }
+    }
+}
+
+/// The message, where it is well formed for the members.
+fn shaped(members: &Members, message: Message) -> Result<Shaped, Unanswered>
+    ensures { IfOk result (λ shaped. shaped.members ≡ members.now) }
+{
+    if !fits(&message) {
+        return Err(Unanswered::Unreadable);
+    }
+    match shape(members.share()?, message) {
+        Ok(shaped) => Ok(shaped),
+        Err((misfit, _)) => Err(Unanswered::Misshapen(misfit)),
+    }
+}
