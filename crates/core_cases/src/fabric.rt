@@ -1,6 +1,6 @@
 //! All replicas of a fabric.
 use crate::limits::is_within_limits;
-use crate::node::{Node, Seat, Turn};
+use crate::node::{Node, Seat, Turn, put};
 use crate::words::{Text, Unanswered, at, plain, small, smalls};
 use fab_base::{
     Duplicate, Item, MOST_CLUSTERS, MOST_MEMBERS, Members, Message, ReplicaId, Request, Who,
@@ -85,8 +85,7 @@ impl Fabric {
         let mut copies = 0usize;
         for node in self.nodes.iter_mut() {
             if node.id.cluster == home {
-                let copy = Message::Request(request.duplicate()?);
-                node.mail.push_back(copy)?;
+                put(&mut node.mail, Message::Request(request.duplicate()?))?;
                 copies = copies.saturating_add(1);
             }
         }
@@ -98,7 +97,7 @@ impl Fabric {
         if let Answer::Sent(Item { message, to }) = answer {
             for id in to.as_slice() {
                 let copy = message.duplicate()?;
-                self.node_mut(*id)?.mail.push_back(copy)?;
+                put(&mut self.node_mut(*id)?.mail, copy)?;
             }
         }
         Ok(())
@@ -118,19 +117,31 @@ impl Fabric {
         Ok(events)
     }
 
-    /// Passes until nothing moves. Answers how many events there were.
-    pub(crate) fn settle(&mut self, mail: Turn) -> Text {
+    /// A pass, or where nothing moves one in which all are nudged. Answers how many events there were.
+    fn round(&mut self, mail: Turn) -> Result<u32, Unanswered> {
+        match self.pass(mail)? {
+            0 => self.pass(Turn::Nudge),
+            events => Ok(events),
+        }
+    }
+
+    /// Passes until nothing moves. Answers how many events there were, and `None` where it moves on and on.
+    fn events(&mut self, mail: Turn) -> Result<Option<u32>, Unanswered> {
         let mut events = 0u32;
         for _ in 0..MOST_PASSES {
-            let mut more = self.pass(mail)?;
-            if more == 0 {
-                more = self.pass(Turn::Nudge)?;
+            match self.round(mail)? {
+                0 => return Ok(Some(events)),
+                more => events = events.saturating_add(more),
             }
-            if more == 0 {
-                return Ok(format!(in self.alloc; "{events} events")?);
-            }
-            events = events.saturating_add(more);
         }
-        plain(self.alloc, "not settled")
+        Ok(None)
+    }
+
+    /// Passes until nothing moves: the number of events.
+    pub(crate) fn settle(&mut self, mail: Turn) -> Text {
+        match self.events(mail)? {
+            Some(events) => Ok(format!(in self.alloc; "{events} events")?),
+            None => plain(self.alloc, "not settled"),
+        }
     }
 }

@@ -105,19 +105,25 @@ impl Seat {
     }
 }
 
-impl Node {
-    /// The oldest or the newest of the mail, which is taken out.
-    pub(crate) fn take(&mut self, turn: Turn) -> Option<Message> {
-        match turn {
-            Turn::Oldest => self.mail.pop_front(),
-            Turn::Newest => self.mail.pop_back(),
-            Turn::Nudge => None,
-        }
+/// The oldest or the newest of a replica's mail, which is taken out.
+pub(crate) fn take(mail: &mut VecDeque<Message>, turn: Turn) -> Option<Message> {
+    match turn {
+        Turn::Oldest => mail.pop_front(),
+        Turn::Newest => mail.pop_back(),
+        Turn::Nudge => None,
     }
+}
 
+/// A message comes to a replica's mail.
+pub(crate) fn put(mail: &mut VecDeque<Message>, message: Message) -> Result<(), NoMemory> {
+    mail.push_back(message)?;
+    Ok(())
+}
+
+impl Node {
     /// One event of this turn, if there is one.
     pub(crate) fn turn(&mut self, turn: Turn) -> Result<Option<Answer>, Unanswered> {
-        if let Some(message) = self.take(turn) {
+        if let Some(message) = take(&mut self.mail, turn) {
             return Ok(Some(self.seat.hear(message)?));
         }
         match turn {

@@ -1,6 +1,7 @@
 //! Rounds that no replica keeps.
-ghost use Rattle.std.specs.Prelude.{◌≡◌, IsTrue};
+ghost use Rattle.std.specs.Prelude.{◌≡◌, IfOk, IsTrue};
 ghost use Rattle.fab_rules.specs.Format.{batch_fits};
+ghost use Rattle.fab_machine.specs.Rounds.{round_of};
 ghost use Rattle.round_exec.specs.Book.{are_clients};
 
 use crate::answers::take_words;
@@ -79,6 +80,7 @@ fn are_clients(batch: &[Request], clients: u8) -> bool
 /// A certificate of one Commit.
 fn certificate(alloc: Global, cluster: u8, round: u64, batch: Batch) -> Result<CommitCert, NoMemory>
     requires { IsTrue (batch_fits batch) }
+    ensures { IfOk result (λ cert. (cert.cluster ≡ cluster) × (cert.batch ≡ batch) × (round_of cert ≡ round)) }
 {
     let mut votes = Votes::new(alloc);
     votes.push(Vote {
