@@ -2,8 +2,16 @@
 use crate::declared::Declared;
 use crate::words::{Unanswered, at, number, replica, small};
 use bft_msg::batch_digest;
-use fab_base::{Ask, Bytes, Message, PrePrepare, Vote};
+use fab_base::{Ask, Bytes, Message, NoMemory, PrePrepare, Vote};
 use std::alloc::Global;
+
+/// What stands where proposals and votes have their signature. Nobody looks at it here.
+const SIGNATURE: &[u8] = b"made up";
+
+/// A copy of it.
+fn signature(alloc: Global) -> Result<Bytes, NoMemory> {
+    Ok(Bytes::from_vec(SIGNATURE.to_vec(alloc)?))
+}
 
 /// The message that the words from place 2 on tell of.
 pub(crate) fn message(
@@ -28,7 +36,7 @@ fn proposal(alloc: Global, declared: &Declared, line: &str) -> Result<PrePrepare
         view: number(at(line, 4))?,
         slot: number(at(line, 5))?,
         batch: declared.batch(at(line, 6))?,
-        sig: Bytes::new(alloc),
+        sig: signature(alloc)?,
     })
 }
 
@@ -40,7 +48,7 @@ fn vote(alloc: Global, declared: &Declared, line: &str) -> Result<Vote, Unanswer
         view: number(at(line, 4))?,
         slot: number(at(line, 5))?,
         digest: batch_digest(&batch),
-        sig: Bytes::new(alloc),
+        sig: signature(alloc)?,
     })
 }
 
