@@ -46,7 +46,8 @@ put_times : (time : ℕ) (bytes : List ℕ) (earlier : List Parcel) (receivers :
 put_times time bytes earlier [] q h = absurd h
 put_times time bytes earlier (to ∷ rest) q (inl e) = ap (λ (x : Parcel). x.time) (sym e)
 put_times time bytes earlier (to ∷ rest) q (inr h) =
-    put_times time bytes (earlier ++ record { to = to; number = count_by (λ x. is_same to x.to) earlier; time = time; bytes = bytes; passes = 1 } ∷ []) rest q h
+    put_times time bytes
+    (earlier ++ record { to = to; number = count_by (λ x. is_same to x.to) earlier; time = time; bytes = bytes; passes = 1 } ∷ []) rest q h
 
 added_times : (m : Maker) (w : Walk) (e : Entry) (q : Parcel) → In q (added m w e) → q.time ≡ w.clock
 unfolding added

@@ -55,7 +55,8 @@ pub one_more : (f g : Maker → ℕ) (m : Maker) (d : ℕ) (makers : List Maker)
 one_more f g m d [] a h e k = absurd h
 one_more f g m d (x ∷ rest) a (inl p) e k =
     let here : g x ≡ f x + d = subst (λ (y : Maker). g y ≡ f y + d) p e in
-    let away : (n : Maker) → IsIn n rest → g n ≡ f n = λ n i. k n (subst (λ (y : Maker). is_same n.id y.id ≡ false) (sym p) (other_turned _ _ (apart_from x n rest a.0 i))) in
+    let away : (n : Maker) → IsIn n rest → g n ≡ f n =
+    λ n i. k n (subst (λ (y : Maker). is_same n.id y.id ≡ false) (sym p) (other_turned _ _ (apart_from x n rest a.0 i))) in
     let r = same_sum f g rest away in
     let u = sum_by-cons f x rest in
     let v = sum_by-cons g x rest in
@@ -77,7 +78,8 @@ copies_counted p to from (q ∷ rest) =
     ∙ sym (sum_by-cons (λ (x : Parcel). cond (is_same to x.to && p (Origin.Replica from x.time) x.bytes) 1 0) q rest)
   where
     go : (b : Bool)
-        → pending_counted p (cond b ((copy_of from q).1 ∷ of to (map (copy_of from) rest)) (of to (map (copy_of from) rest))) ≡ cond (b && p (Origin.Replica from q.time) q.bytes) 1 0 + pending_counted p (of to (map (copy_of from) rest))
+        → pending_counted p (cond b ((copy_of from q).1 ∷ of to (map (copy_of from) rest)) (of to (map (copy_of from) rest)))
+        ≡ cond (b && p (Origin.Replica from q.time) q.bytes) 1 0 + pending_counted p (of to (map (copy_of from) rest))
     go true = sum_by-cons (λ (c : Pending). cond (p c.origin c.load) 1 0) (copy_of from q).1 (of to (map (copy_of from) rest))
     go false = sym (zero-add (pending_counted p (of to (map (copy_of from) rest))))
 
@@ -134,7 +136,8 @@ put_by_more : (p : Test) (to : ReplicaId) (m : Maker) (e : Entry) (run : Run)
 put_by_more p to m e run =
     ap (λ j. parcels_counted p to m.id (parcels_of m j)) (journal_more m e run)
     ∙ ap (parcels_counted p to m.id) (parcels_more m (journal_in run m) e)
-    ∙ sum_by-append (λ (q : Parcel). cond (is_same to q.to && p (Origin.Replica m.id q.time) q.bytes) 1 0) (parcels_of m (journal_in run m)) (new_parcels m e run)
+    ∙ sum_by-append (λ (q : Parcel). cond (is_same to q.to && p (Origin.Replica m.id q.time) q.bytes) 1 0)
+    (parcels_of m (journal_in run m)) (new_parcels m e run)
 
 put_more : (p : Test) (r : Rules) (to : ReplicaId) (m : Maker) (e : Entry) (run : Run) → AreApart r.makers → IsIn m r.makers
     → put_in p r (with_entry m e run) to ≡ put_in p r run to + parcels_counted p to m.id (new_parcels m e run)
@@ -154,7 +157,9 @@ heard_more p n m e run one = go (is_same n.id m.id) refl
 
     go : (b : Bool) → is_same n.id m.id ≡ b
         → heard_counted p (journal_in (with_entry m e run) n) ≡ heard_counted p (journal_in run n) + cond b (heard_once p e) 0
-    go true h = subst (λ (x : Maker). heard_counted p (journal_in (with_entry m e run) x) ≡ heard_counted p (journal_in run x) + heard_once p e) (sym (one h)) mine
+    go true h =
+        subst (λ (x : Maker). heard_counted p (journal_in (with_entry m e run) x) ≡ heard_counted p (journal_in run x) + heard_once p e)
+        (sym (one h)) mine
     go false h = ap (heard_counted p) (journal_other n m e run h) ∙ sym (add-zero (heard_counted p (journal_in run n)))
 
 held_more : (p : Test) (n m : Maker) (e : Entry) (run : Run) → (is_same n.id m.id ≡ true → n ≡ m)
@@ -177,7 +182,9 @@ way_less p n m k c run h g one = go (is_same n.id m.id) refl
 
     go : (b : Bool) → is_same n.id m.id ≡ b
         → pending_counted p (waiting_in run n) ≡ pending_counted p (waiting_in (taken_out m k run) n) + cond b (one_copy p c) 0
-    go true s = subst (λ (x : Maker). pending_counted p (waiting_in run x) ≡ pending_counted p (waiting_in (taken_out m k run) x) + one_copy p c) (sym (one s)) mine
+    go true s =
+        subst (λ (x : Maker). pending_counted p (waiting_in run x) ≡ pending_counted p (waiting_in (taken_out m k run) x) + one_copy p c)
+        (sym (one s)) mine
     go false s = ap (pending_counted p) (sym (of_without_other n.id m.id k run.way s)) ∙ sym (add-zero _)
 
 turned_more : (p : Test) (n m : Maker) (d : Declined) (l : List (ReplicaId × Declined))
@@ -219,7 +226,8 @@ ways_heard r m k c x run a i h g s w n j p =
     let one = one_by_id n m r.makers a j i in
     let t = held_more p n m e (taken_out m k run) one in
     let q = put_more p r n.id m e (taken_out m k run) a i in
-    let z : cond (is_same n.id m.id) (heard_once p e) 0 ≡ cond (is_same n.id m.id) (one_copy p c) 0 = ap (λ b. cond (is_same n.id m.id) (cond (p c.origin b) 1 0) 0) s in
+    let z : cond (is_same n.id m.id) (heard_once p e) 0 ≡ cond (is_same n.id m.id) (one_copy p c) 0 =
+    ap (λ b. cond (is_same n.id m.id) (cond (p c.origin b) 1 0) 0) s in
     let l = way_less p n m k c run h g one in
     let u = w n j p in
     omega arith

@@ -32,6 +32,13 @@ pub record IsFair (r : Rules) (run : Run) : Type 0 where
   pub turned : AreTurned r run
   pub entries : AreAll r run
 
+-- it looks at no phase, and not at how many words were used
+fair_at : (r : Rules) (run : Run) (p : Phase) → IsFair r run → IsFair r (record run { phase = p })
+fair_at r run p f = record { logs = f.logs; ways = f.ways; waiting = f.waiting; turned = f.turned; entries = f.entries }
+
+fair_picked : (r : Rules) (run : Run) → IsFair r run → IsFair r (record run { picks = run.picks + 1 })
+fair_picked r run f = record { logs = f.logs; ways = f.ways; waiting = f.waiting; turned = f.turned; entries = f.entries }
+
 log_more : (r : Rules) (m : Maker) (e : Entry) (run : Run) → AreApart r.makers → IsIn m r.makers → IsNext m (journal_in run m) e
     → IsHeardSound m e → ((n : Maker) → IsIn n r.makers → IsTrueLog n (journal_in run n)) → (n : Maker) → IsIn n r.makers
     → IsTrueLog n (journal_in (with_entry m e run) n)
@@ -53,7 +60,8 @@ fair_given r m mover run a i f = go (moves m (journal_in run m) mover) refl
   where
     go : (b : Bool) → moves m (journal_in run m) mover ≡ b → IsFair r (cond b (with_entry m (entry_of m (journal_in run m) mover) run) run)
     go true e = record {
-      logs = log_more r m (entry_of m (journal_in run m) mover) run a i (entry_next m (journal_in run m) mover e) (entry_sound m (journal_in run m) mover) f.logs;
+      logs = log_more r m (entry_of m (journal_in run m) mover) run a i (entry_next m (journal_in run m) mover e)
+          (entry_sound m (journal_in run m) mover) f.logs;
       ways = ways_given r m mover run a i f.ways;
       waiting = waiting_more r m (entry_of m (journal_in run m) mover) run i f.waiting;
       turned = turned_stays r m (entry_of m (journal_in run m) mover) run f.turned;
@@ -130,7 +138,7 @@ spent_at : (r : Rules) (run : Run) → is_spent r run ≡ true → r.turns ≤ l
 spent_at r run e = grind (arith, nat_tests)
 
 well_spent : (r : Rules) (run : Run) → is_spent r run ≡ true → IsFair r run → IsWell r (record run { phase = Phase.Ended true })
-well_spent r run e f = record { fair = record { logs = f.logs; ways = f.ways; waiting = f.waiting; turned = f.turned; entries = f.entries }; stands = spent_at r run e }
+well_spent r run e f = record { fair = fair_at r run (Phase.Ended true) f; stands = spent_at r run e }
 
 picking : (r : Rules) (run : Run) → run.phase ≡ Phase.Pick → IsFair r run → IsWell r run
 picking r run e f = record { fair = f; stands = subst (λ (p : Phase). Stands r run p) (sym e) tt }
@@ -140,37 +148,40 @@ stepped : (r : Rules) (run : Run) (s : Step) → Sane r → run.phase ≡ Phase.
 stepped r run (Step.Hear m k c) s e f h =
     let next_run : Run = record run { picks = run.picks + 1 } in
     picking r (hear m k c next_run) (phase_hear m k c next_run ∙ e)
-    (fair_heard r m k c next_run s h.0 h.1 h.2 (record { logs = f.logs; ways = f.ways; waiting = f.waiting; turned = f.turned; entries = f.entries }))
+    (fair_heard r m k c next_run s h.0 h.1 h.2 (fair_picked r run f))
 stepped r run (Step.Give m mover) s e f h =
     let next_run : Run = record run { picks = run.picks + 1 } in
     picking r (give m mover next_run) (phase_give m mover next_run ∙ e)
-    (fair_given r m mover next_run s.apart h (record { logs = f.logs; ways = f.ways; waiting = f.waiting; turned = f.turned; entries = f.entries }))
+    (fair_given r m mover next_run s.apart h (fair_picked r run f))
 
 picked : (r : Rules) (run : Run) (l : List Step) → steps r run ≡ l → Sane r → run.phase ≡ Phase.Pick → IsFair r run
     → IsWell r (pick_from r run l)
-picked r run [] q s e f = record { fair = record { logs = f.logs; ways = f.ways; waiting = f.waiting; turned = f.turned; entries = f.entries }; stands = ((λ m i. i), still_all run r.makers q, (λ m i. inl i)) }
+picked r run [] q s e f =
+    record { fair = fair_at r run (Phase.Nudging r.makers false) f; stands = ((λ m i. i), still_all run r.makers q, (λ m i. inl i)) }
 picked r run (x ∷ rest) q s e f =
     let all : AreSteps r run (x ∷ rest) = subst (λ (l : List Step). AreSteps r run l) q (steps_made r run) in
     stepped r run _ s e f (step_at r run (x ∷ rest) (r.word run.picks % length (x ∷ rest)) x all all.0)
 
 -- a nudge
-nudged : (r : Rules) (run : Run) (m : Maker) (rest : List Maker) (moved : Bool) → Sane r → run.phase ≡ Phase.Nudging (m ∷ rest) moved → IsWell r run → (b : Bool) → moves m (journal_in run m) Mover.Nudge ≡ b → IsWell r (record (give m Mover.Nudge run) { phase = Phase.Nudging rest (moved || b) })
+nudged : (r : Rules) (run : Run) (m : Maker) (rest : List Maker) (moved : Bool) → Sane r → run.phase ≡ Phase.Nudging (m ∷ rest) moved
+    → IsWell r run → (b : Bool) → moves m (journal_in run m) Mover.Nudge ≡ b
+    → IsWell r (record (give m Mover.Nudge run) { phase = Phase.Nudging rest (moved || b) })
 unfolding give
 nudged r run m rest true s e w b q =
     let st : Stands r run (Phase.Nudging (m ∷ rest) true) = subst (λ (p : Phase). Stands r run p) e w.stands in
     let f = fair_given r m Mover.Nudge run s.apart (st m (inl refl)) w.fair in
-    record { fair = record { logs = f.logs; ways = f.ways; waiting = f.waiting; turned = f.turned; entries = f.entries }; stands = λ n i. st n (inr i) }
+    record { fair = fair_at r (give m Mover.Nudge run) (Phase.Nudging rest true) f; stands = λ n i. st n (inr i) }
 nudged r run m rest false s e w true q =
     let st : Stands r run (Phase.Nudging (m ∷ rest) false) = subst (λ (p : Phase). Stands r run p) e w.stands in
     let f = fair_given r m Mover.Nudge run s.apart (st.0 m (inl refl)) w.fair in
-    record { fair = record { logs = f.logs; ways = f.ways; waiting = f.waiting; turned = f.turned; entries = f.entries }; stands = λ n i. st.0 n (inr i) }
+    record { fair = fair_at r (give m Mover.Nudge run) (Phase.Nudging rest true) f; stands = λ n i. st.0 n (inr i) }
 nudged r run m rest false s e w false q =
     let st : Stands r run (Phase.Nudging (m ∷ rest) false) = subst (λ (p : Phase). Stands r run p) e w.stands in
     let same : give m Mover.Nudge run ≡ run = ap (λ b. cond b (with_entry m (entry_of m (journal_in run m) Mover.Nudge) run) run) q in
     let left : (n : Maker) → IsIn n r.makers → IsIn n rest ⊎ IsUnmoved run n =
     λ n i. elim (st.2 n i) [ inl (inl p) ↦ inr (subst (λ (y : Maker). IsUnmoved run y) (sym p) q) | inl (inr j) ↦ inl j | inr u ↦ inr u ] in
     subst (λ (x : Run). IsWell r (record x { phase = Phase.Nudging rest false })) (sym same)
-    (record { fair = record { logs = w.fair.logs; ways = w.fair.ways; waiting = w.fair.waiting; turned = w.fair.turned; entries = w.fair.entries }; stands = ((λ n i. st.0 n (inr i)), st.1, left) })
+    (record { fair = fair_at r run (Phase.Nudging rest false) w.fair; stands = ((λ n i. st.0 n (inr i)), st.1, left) })
 
 none_left : (r : Rules) (run : Run) → ((m : Maker) → IsIn m r.makers → IsIn m [] ⊎ IsUnmoved run m) → (m : Maker) → IsIn m r.makers
     → IsUnmoved run m
@@ -182,13 +193,15 @@ next_by r run Phase.Pick s e w = go (is_spent r run) refl
     go : (b : Bool) → is_spent r run ≡ b → IsWell r (cond b (record run { phase = Phase.Ended true }) (pick_from r run (steps r run)))
     go true q = well_spent r run q w.fair
     go false q = picked r run (steps r run) refl s e w.fair
-next_by r run (Phase.Nudging [] true) s e w = record { fair = record { logs = w.fair.logs; ways = w.fair.ways; waiting = w.fair.waiting; turned = w.fair.turned; entries = w.fair.entries }; stands = tt }
+next_by r run (Phase.Nudging [] true) s e w = record { fair = fair_at r run Phase.Pick w.fair; stands = tt }
 next_by r run (Phase.Nudging [] false) s e w =
     let st : Stands r run (Phase.Nudging [] false) = subst (λ (p : Phase). Stands r run p) e w.stands in
-    record { fair = record { logs = w.fair.logs; ways = w.fair.ways; waiting = w.fair.waiting; turned = w.fair.turned; entries = w.fair.entries }; stands = (st.1, none_left r run st.2) }
+    record { fair = fair_at r run (Phase.Ended false) w.fair; stands = (st.1, none_left r run st.2) }
 next_by r run (Phase.Nudging (m ∷ rest) moved) s e w = go (is_spent r run) refl
   where
-    go : (b : Bool) → is_spent r run ≡ b → IsWell r (cond b (record run { phase = Phase.Ended true }) (record (give m Mover.Nudge run) { phase = Phase.Nudging rest (moved || moves m (journal_in run m) Mover.Nudge) }))
+    go : (b : Bool) → is_spent r run ≡ b
+        → IsWell r (cond b (record run { phase = Phase.Ended true })
+        (record (give m Mover.Nudge run) { phase = Phase.Nudging rest (moved || moves m (journal_in run m) Mover.Nudge) }))
     go true q = well_spent r run q w.fair
     go false q = nudged r run m rest moved s e w (moves m (journal_in run m) Mover.Nudge) refl
 next_by r run (Phase.Ended spent) s e w = w
@@ -239,14 +252,16 @@ all_used : (r : Rules) (run : Run) (p : Test) (m : Maker) → AreApart r.makers 
 all_used r run p m a w i =
     let u = w.fair.ways m i p in
     let t = sum_traces (λ (t : Trace). parcels_counted p m.id t.id t.parcels) (trace_in run) r.makers in
-    let c : refused_counted p (transcript r run).traces m.id (flat_map turned_of (declined_in run m)) ≡ declined_counted p (declined_in run m) = all_counted p r run m a i w.fair.turned in
+    let c : refused_counted p (transcript r run).traces m.id (flat_map turned_of (declined_in run m)) ≡ declined_counted p (declined_in run m) =
+    all_counted p r run m a i w.fair.turned in
     omega arith
 
 lawful_of : (r : Rules) (run : Run) → AreApart r.makers → IsWell r run → Lawful r (transcript r run)
 lawful_of r run a w = record {
   script = refl;
   kept = each_of Kept (trace_in run) r.makers
-      (λ m i. record { named = refl; fault = refl; replays = (w.fair.logs m i).0; sound = (w.fair.logs m i).1; signed = refl; parcels = refl; unsent = refl });
+      (λ m i. let log = w.fair.logs m i in
+      record { named = refl; fault = refl; replays = log.0; sound = log.1; signed = refl; parcels = refl; unsent = refl });
   delivered = each_of (IsDelivered r (transcript r run).traces) (trace_in run) r.makers (λ m i p. let u = all_used r run p m a w i in omega arith);
   refused = each_of (AreRefused (transcript r run).traces) (trace_in run) r.makers (λ m i x h. all_refused r run m x a i w.fair.turned h);
   no_timeouts = refl;
@@ -257,7 +272,9 @@ settled_of r run a w e =
     let st : Stands r run (Phase.Ended false) = subst (λ (p : Phase). Stands r run p) e w.stands in
     record {
       all_heard = each_of (IsAllHeard r (transcript r run).traces) (trace_in run) r.makers
-          (λ m i p. let u = all_used r run p m a w i in let z : pending_counted p (waiting_in run m) ≡ 0 = ap (pending_counted p) (st.0 m i).0 in omega arith);
+          (λ m i p. let u = all_used r run p m a w i in
+          let z : pending_counted p (waiting_in run m) ≡ 0 = ap (pending_counted p) (st.0 m i).0 in
+          omega arith);
       sent = each_of IsSent (trace_in run) r.makers (λ m i. sent_or_blocked m (journal_in run m) (st.0 m i).2);
       idle = each_of IsIdle (trace_in run) r.makers
           (λ m i. elim [ Mover.Batch ↦ (st.0 m i).1 | Mover.Nudge ↦ st.1 m i | Mover.Emit ↦ (st.0 m i).2 | Mover.Execute ↦ (st.0 m i).3 ]);
@@ -274,6 +291,8 @@ pub run_law : RunLaw
 run_law r t spent s (n, e, q) =
     let w = after_well r n s in (
       subst (λ (x : Transcript). Lawful r x) (sym q) (lawful_of r (after r n) s.apart w),
-      λ (z : spent ≡ false). subst (λ (x : Transcript). Settled r x) (sym q) (settled_of r (after r n) s.apart w (subst (λ (b : Bool). HasEnded (after r n) b) z e)),
-      λ (z : spent ≡ true). subst (λ (x : Transcript). r.turns ≤ entries_of x) (sym q) (entries_told r (after r n) w (subst (λ (b : Bool). HasEnded (after r n) b) z e)),
+      λ (z : spent ≡ false). subst (λ (x : Transcript). Settled r x) (sym q)
+          (settled_of r (after r n) s.apart w (subst (λ (b : Bool). HasEnded (after r n) b) z e)),
+      λ (z : spent ≡ true). subst (λ (x : Transcript). r.turns ≤ entries_of x) (sym q)
+          (entries_told r (after r n) w (subst (λ (b : Bool). HasEnded (after r n) b) z e)),
     )

@@ -3,6 +3,9 @@ pub mod Walks
 pub mod Clocks
 pub mod Replays
 pub mod Signing
+pub mod Placing
+pub mod Voices
+pub mod Sending
 pub mod Tellings
 pub mod Sounds
 pub mod Counts

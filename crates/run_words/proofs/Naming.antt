@@ -78,7 +78,8 @@ put_named time bytes earlier (to ∷ rest) q (inl e) =
 put_named time bytes earlier (to ∷ rest) q (inr h) =
     let p : Parcel = record { to = to; number = count_by (λ x. is_same to x.to) earlier; time = time; bytes = bytes; passes = 1 } in
     let later = put time bytes (earlier ++ p ∷ []) rest in
-    subst (λ (l : List Parcel). parcel_at q.to q.number l ≡ Some q) (append_assoc earlier (p ∷ []) later) (put_named time bytes (earlier ++ p ∷ []) rest q h)
+    subst (λ (l : List Parcel). parcel_at q.to q.number l ≡ Some q) (append_assoc earlier (p ∷ []) later)
+    (put_named time bytes (earlier ++ p ∷ []) rest q h)
 
 added_named : (m : Maker) (w : Walk) (e : Entry) (q : Parcel) → In q (added m w e)
     → parcel_at q.to q.number (w.parcels ++ added m w e) ≡ Some q
@@ -134,7 +135,8 @@ abbrev pub AreWaiting : Rules → Run → Type 0
 AreWaiting r run = (m : Maker) (c : Pending) → IsIn m r.makers → In c (waiting_in run m) → IsPut r run m c
 
 abbrev pub AreTurned : Rules → Run → Type 0
-AreTurned r run = (m : Maker) (d : Declined) → IsIn m r.makers → In d (declined_in run m) → IsPut r run m d.copy × (reads m d.copy.load ≡ Err d.refusal)
+AreTurned r run = (m : Maker) (d : Declined) → IsIn m r.makers → In d (declined_in run m)
+    → IsPut r run m d.copy × (reads m d.copy.load ≡ Err d.refusal)
 
 -- ---- an entry more
 
@@ -178,14 +180,16 @@ new_put r n m e run c i h =
     ap (parcels_of m) (journal_more m e run) ∙ parcels_more m (journal_in run m) e in
     let there : parcel_at n.id k.parcel.number (parcels_of m (journal_in (with_entry m e run) m)) ≡ Some k.parcel =
     ap (parcel_at n.id k.parcel.number) grown
-    ∙ ap (λ t. parcel_at t k.parcel.number (parcels_of m (journal_in run m) ++ added m (walk m (journal_in run m)) e)) (same_is n.id k.parcel.to k.receiver)
+    ∙ ap (λ t. parcel_at t k.parcel.number (parcels_of m (journal_in run m) ++ added m (walk m (journal_in run m)) e))
+    (same_is n.id k.parcel.to k.receiver)
     ∙ named in
     subst (λ (x : Pending). IsPut r (with_entry m e run) n x) k.same
     (record { sender = m; is_in = i; id_is = refl; parcel = k.parcel; is_there = there; time_is = refl; load_is = refl })
 
 pub waiting_more : (r : Rules) (m : Maker) (e : Entry) (run : Run) → IsIn m r.makers → AreWaiting r run → AreWaiting r (with_entry m e run)
 waiting_more r m e run i w n c j h =
-    elim (in_append_cases c (waiting_in run n) (of n.id (map (copy_of m.id) (added m (walk m (journal_in run m)) e))) (subst (In c) (way_more n m e run) h)) [
+    let new = of n.id (map (copy_of m.id) (added m (walk m (journal_in run m)) e)) in
+    elim (in_append_cases c (waiting_in run n) new (subst (In c) (way_more n m e run) h)) [
       | inl k ↦ put_stays r n m e run c.number c.load c.origin (w n c j k)
       | inr k ↦ new_put r n m e run c i k
     ]
@@ -274,10 +278,12 @@ parcels_are : (run : Run) (s : Maker) (makers : List Maker) → AreApart makers 
     → parcels_by s.id (map (trace_in run) makers) ≡ parcels_of s (journal_in run s)
 parcels_are run s [] a i = absurd i
 parcels_are run s (x ∷ rest) a (inl e) =
-    subst (λ (y : Maker). cond (is_same s.id y.id) (parcels_of y (journal_in run y)) (parcels_by s.id (map (trace_in run) rest)) ≡ parcels_of s (journal_in run s)) e
+    subst (λ (y : Maker). cond (is_same s.id y.id) (parcels_of y (journal_in run y)) (parcels_by s.id (map (trace_in run) rest))
+    ≡ parcels_of s (journal_in run s)) e
     (ap (λ b. cond b (parcels_of s (journal_in run s)) (parcels_by s.id (map (trace_in run) rest))) (same_self s.id))
 parcels_are run s (x ∷ rest) a (inr i) =
-    ap (λ b. cond b (parcels_of x (journal_in run x)) (parcels_by s.id (map (trace_in run) rest))) (other_turned x.id s.id (apart_from x s rest a.0 i))
+    ap (λ b. cond b (parcels_of x (journal_in run x)) (parcels_by s.id (map (trace_in run) rest)))
+    (other_turned x.id s.id (apart_from x s rest a.0 i))
     ∙ parcels_are run s rest a.1 i
 
 named_is : (r : Rules) (run : Run) (to from : ReplicaId) (time number : ℕ) (load : List ℕ) → AreApart r.makers

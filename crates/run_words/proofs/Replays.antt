@@ -29,7 +29,8 @@ use Rattle.run_words.specs.Lawful.{HonestLaw}
 -- ---- the state
 
 state_from_more : (m : Maker) (s : Replica) (journal : List Entry) (e : Entry)
-    → state_from m.roster m.id s (map event_of (journal ++ e ∷ [])) ≡ (step m.roster m.id (state_from m.roster m.id s (map event_of journal)) (event_of e)).state
+    → state_from m.roster m.id s (map event_of (journal ++ e ∷ []))
+    ≡ (step m.roster m.id (state_from m.roster m.id s (map event_of journal)) (event_of e)).state
 state_from_more m s [] e = refl
 state_from_more m s (x ∷ rest) e = state_from_more m (step m.roster m.id s (event_of x)).state rest e
 
@@ -40,7 +41,7 @@ state_more m journal e = state_from_more m (fresh m.roster m.id) journal e
 
 -- ---- a signature changes neither the signer nor the statement
 
-said_signed : (sig : List ℕ) (x : Message) → (signer_of (with_sig sig x) ≡ signer_of x) × (unsigned (with_sig sig x) ≡ unsigned x)
+pub said_signed : (sig : List ℕ) (x : Message) → (signer_of (with_sig sig x) ≡ signer_of x) × (unsigned (with_sig sig x) ≡ unsigned x)
 said_signed sig (Message.Request x) = (refl, refl)
 said_signed sig (Message.PrePrepare x) = (refl, refl)
 said_signed sig (Message.Prepare x) = (refl, refl)
@@ -77,7 +78,7 @@ sent_diary : (m : Maker) (k : ℕ) (outbox : List Item) (s : Replica) (past : Li
 sent_diary m k [] s past h = absurd cc
 sent_diary m k (x ∷ rest) s past h = ap (after_saying past) (sent_says m.id (m.signature k (draft_of m.id x)) x)
 
-emits : (m : Maker) (journal : List Entry) → moves m journal Mover.Emit ≡ true
+pub emits : (m : Maker) (journal : List Entry) → moves m journal Mover.Emit ≡ true
     → machine.moves m.roster m.id (state m journal) (Event.Emit []) ≡ true
 unfolding moves
 emits m journal h = and_left (machine.moves m.roster m.id (state m journal) (Event.Emit [])) (not (is_blocked m journal)) h
@@ -130,7 +131,7 @@ same_from m earlier (e ∷ rest) past h =
     (same_from m (earlier ++ e ∷ []) rest grown h.1) in
     later ∙ ap (λ (d : List diaries.Entry). events.diary_from m.roster m.id now d (map event_of rest)) (same_entry m earlier e now past h.0)
 
-fresh_is : (m : Maker) → state m [] ≡ fresh m.roster m.id
+pub fresh_is : (m : Maker) → state m [] ≡ fresh m.roster m.id
 unfolding state
 fresh_is m = refl
 
@@ -138,7 +139,8 @@ fresh_is m = refl
 pub same_diary : (m : Maker) (journal : List Entry) → IsMade m journal → diary m journal ≡ diary_of m.roster m.id (map event_of journal)
 unfolding diary
 same_diary m journal h =
-    subst (λ (s : Replica). diary_from m s [] journal ≡ events.diary_from m.roster m.id s [] (map event_of journal)) (fresh_is m) (same_from m [] journal [] h)
+    subst (λ (s : Replica). diary_from m s [] journal ≡ events.diary_from m.roster m.id s [] (map event_of journal)) (fresh_is m)
+    (same_from m [] journal [] h)
 
 -- ---- it is honest
 

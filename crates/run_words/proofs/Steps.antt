@@ -34,7 +34,8 @@ hearings_made r run m front (c ∷ rest) k i e w =
     let n : length (front ++ c ∷ rest) ≡ length front + suc (length rest) = length-append front (c ∷ rest) in
     let t : length (waiting_in run m) ≡ length (front ++ c ∷ rest) = ap length w in
     let short : k < length (waiting_in run m) = omega arith in
-    let here : get_or (waiting_in run m) k c ≡ c = ap (λ j. get_or (waiting_in run m) j c) e ∙ ap (λ (l : List Pending). get_or l (length front) c) w ∙ at_front front rest c c in
+    let here : get_or (waiting_in run m) k c ≡ c =
+    ap (λ j. get_or (waiting_in run m) j c) e ∙ ap (λ (l : List Pending). get_or l (length front) c) w ∙ at_front front rest c c in
     let grown : suc k ≡ length (front ++ c ∷ []) = ap suc e ∙ sym (length-append front (c ∷ []) ∙ add-one (length front)) in
     ((i, short, here), hearings_made r run m (front ++ c ∷ []) rest (suc k) i grown (w ∙ sym (append_assoc front (c ∷ []) rest)))
 
@@ -55,7 +56,8 @@ steps_of_made r run m i =
 steps_from_made : (r : Rules) (run : Run) (makers : List Maker) → ((m : Maker) → IsIn m makers → IsIn m r.makers)
     → AreSteps r run (steps_from run makers)
 steps_from_made r run [] h = tt
-steps_from_made r run (m ∷ rest) h = steps-append r run _ _ (steps_of_made r run m (h m (inl refl))) (steps_from_made r run rest (λ n i. h n (inr i)))
+steps_from_made r run (m ∷ rest) h =
+    steps-append r run _ _ (steps_of_made r run m (h m (inl refl))) (steps_from_made r run rest (λ n i. h n (inr i)))
 
 pub steps_made : (r : Rules) (run : Run) → AreSteps r run (steps r run)
 steps_made r run = steps_from_made r run r.makers (λ m i. i)

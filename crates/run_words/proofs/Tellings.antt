@@ -27,7 +27,8 @@ tells m journal (Act.Hear origin heard) = hearing_moves m.roster m.id (state m j
 tells m journal Act.Batch = refl
 tells m journal Act.Nudge = refl
 tells m journal Act.Emit =
-    (told_emit (is_blocked m journal) (added m (walk m journal) (entry_of m journal Mover.Emit)) (length (signed_of m journal)) (moves m journal Mover.Emit)).0
+    (told_emit (is_blocked m journal) (added m (walk m journal) (entry_of m journal Mover.Emit)) (length (signed_of m journal))
+    (moves m journal Mover.Emit)).0
 tells m journal Act.Execute = refl
 
 pub puts : (m : Maker) (journal : List Entry) (act : Act)
@@ -37,5 +38,6 @@ puts m journal (Act.Hear origin heard) = refl
 puts m journal Act.Batch = none_either [] (moves m journal Mover.Batch)
 puts m journal Act.Nudge = none_either [] (moves m journal Mover.Nudge)
 puts m journal Act.Emit =
-    (told_emit (is_blocked m journal) (added m (walk m journal) (entry_of m journal Mover.Emit)) (length (signed_of m journal)) (moves m journal Mover.Emit)).1
+    (told_emit (is_blocked m journal) (added m (walk m journal) (entry_of m journal Mover.Emit)) (length (signed_of m journal))
+    (moves m journal Mover.Emit)).1
 puts m journal Act.Execute = none_either [] (moves m journal Mover.Execute)

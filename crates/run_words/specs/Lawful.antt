@@ -1,14 +1,22 @@
 -- What is lawful of a transcript, and settled; and the laws.
-use Rattle.std.specs.Prelude.{◌≡◌, ℕ, ◌+◌, ◌≤◌, ◌⊎◌, Bool, true, false, cond, ◌&&◌, List, [], ◌∷◌, length, Option, Some, None, Ok, Err, IsTrue}
+use Rattle.std.specs.Prelude.{◌≡◌, ℕ, ◌+◌, ◌<◌, ◌≤◌, ◌++◌, ◌⊎◌, Bool, true, false, cond, ◌&&◌, List, [], ◌∷◌, length, Option, Some, None, Ok, Err, IsTrue}
 use Rattle.std.specs.List.{sum_by, count_by}
 use Rattle.fab_base.specs.Limits.{IsWithinLimits}
 use Rattle.fab_base.specs.Roster.{is_replica}
 use Rattle.fab_base.specs.declared.ids.ReplicaId.{ReplicaId}
+use Rattle.fab_base.specs.declared.ids.Who.{Who}
 use Rattle.fab_base.specs.declared.messages.Message.{Message}
+use Rattle.fab_base.specs.declared.answers.Item.{Item}
 use Rattle.fab_rules.specs.Lists.{In}
-use Rattle.fab_rules.specs.Spelling.{spelling_of}
+use Rattle.fab_rules.specs.Format.{signature_fits}
+use Rattle.fab_rules.specs.Spelling.{spelling_of, content_of}
+use Rattle.fab_rules.specs.Statements.{signer_of}
 use Rattle.fab_rules.specs.Rules.{IsHonest}
-use Rattle.bft_verify.specs.Sound.{IsSound}
+use Rattle.fab_machine.specs.Items.{is_own}
+use Rattle.lms_tree.specs.declared.public.Public.{Public}
+use Rattle.lms_tree.specs.Verdict.{Valid}
+use Rattle.bft_verify.specs.Ring.{key_of}
+use Rattle.bft_verify.specs.Sound.{IsSound, signature_of}
 use Rattle.run_words.specs.declared.movers.Mover.{Mover}
 use Rattle.run_words.specs.Keyed.{is_same, of, at_place, before}
 use Rattle.run_words.specs.Journal.{Maker, parcels_of, signed_of, waits, moves, is_blocked, diary, IsMade, AreSound, reads}
@@ -162,7 +170,36 @@ pub record Sane (r : Rules) : Type 0 where
 
 -- the diary of a kept trace is honest
 abbrev pub HonestLaw : Type 0
-HonestLaw = (m : Maker) (t : Trace) → IsWithinLimits m.roster → IsTrue (is_replica m.roster m.id) → Kept m t → IsHonest m.roster m.id (diary m t.journal)
+HonestLaw = (m : Maker) (t : Trace) → IsWithinLimits m.roster → IsTrue (is_replica m.roster m.id) → Kept m t
+    → IsHonest m.roster m.id (diary m t.journal)
+
+-- a message after so much of a journal bears the signature of its number, and a leaf was left for it
+pub record IsByLeaf (m : Maker) (earlier : List Entry) (x : Message) : Type 0 where
+  pub left : length (signed_of m earlier) < m.leaves
+  pub signed : signature_of x ≡ m.signature (length (signed_of m earlier)) (content_of x)
+
+-- each sent item that the replica signs does
+abbrev pub ByLeafLaw : Type 0
+ByLeafLaw = (m : Maker) (earlier later : List Entry) (item : Item) → IsMade m (earlier ++ Entry.Sent item ∷ later)
+    → is_own m.id (signer_of item.message) ≡ true → IsByLeaf m earlier item.message
+
+-- the replica's key is in the ring. Each signature that it gives is valid under it, and has a place in a message
+pub record IsKeyed (m : Maker) : Type 0 where
+  pub key : Public
+  pub is_key : key_of m.ring (Who.Replica m.id) ≡ Some key
+  pub valid : (k : ℕ) (content : List ℕ) → k < m.leaves → Valid key content (m.signature k content)
+  pub fits : (k : ℕ) (content : List ℕ) → k < m.leaves → signature_fits (m.signature k content) ≡ true
+
+-- the bytes spell a sound message
+pub record IsSoundParcel (m : Maker) (q : Parcel) : Type 0 where
+  pub message : Message
+  pub sound : IsSound m.roster m.ring message
+  pub spelled : q.bytes ≡ spelling_of message
+
+-- whatever a kept trace put is sound
+abbrev pub ParcelLaw : Type 0
+ParcelLaw = (m : Maker) (t : Trace) → IsWithinLimits m.roster → IsTrue (is_replica m.roster m.id) → IsKeyed m → Kept m t
+    → (q : Parcel) → In q t.parcels → IsSoundParcel m q
 
 -- what is read is sound, and is spelled as it was read
 abbrev pub ReadingLaw : Type 0

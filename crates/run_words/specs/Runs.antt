@@ -5,6 +5,8 @@ use Rattle.std.specs.List.{flat_map}
 use Rattle.fab_base.specs.declared.ids.ReplicaId.{ReplicaId}
 use Rattle.fab_base.specs.declared.messages.Message.{Message}
 use Rattle.fault_script.specs.declared.scripts.Script.{Script}
+use Rattle.fault_script.specs.Drafts.{empty_draft}
+use Rattle.fault_script.specs.Scripts.{script_made}
 use Rattle.bft_verify.specs.declared.refusals.Refusal.{Refusal}
 use Rattle.run_words.specs.declared.movers.Mover.{Mover}
 use Rattle.run_words.specs.Keyed.{of, without}
@@ -175,6 +177,10 @@ trace_in run m = trace_of m (journal_in run m) (flat_map turned_of (declined_in 
 
 abbrev pub transcript : Rules → Run → Transcript
 transcript r run = record { script = r.script; traces = map (trace_in run) r.makers; timeouts_left = 0 }
+
+-- that of a script without lines, of which nothing ran
+abbrev pub empty_transcript : Transcript
+empty_transcript = record { script = script_made empty_draft; traces = []; timeouts_left = 0 }
 
 abbrev pub HasEnded : Run → Bool → Type 0
 HasEnded run spent = run.phase ≡ Phase.Ended spent

@@ -5,7 +5,7 @@ ghost use Rattle.fab_base.specs.declared.messages.Message.{Message};
 ghost use Rattle.fab_rules.specs.Lists.{In};
 ghost use Rattle.fab_machine.specs.Diaries.{diary_of};
 ghost use Rattle.run_words.specs.Journal.{Maker, event_of, diary, said, walk, clock, added, parcels_of, signed_of, IsMade};
-ghost use Rattle.run_words.specs.Lawful.{HonestLaw, OneSchedule, ReadingLaw, RunLaw};
+ghost use Rattle.run_words.specs.Lawful.{ByLeafLaw, HonestLaw, OneSchedule, ParcelLaw, ReadingLaw, RunLaw};
 ghost use Rattle.run_words.specs.Acts.{would, made_by, told_of, told_entry, told_parcels};
 ghost use Rattle.run_words.specs.declared.logs.Origin.{Origin};
 ghost use Rattle.run_words.specs.declared.logs.Entry.{Entry};
@@ -14,11 +14,22 @@ ghost use Rattle.run_words.specs.declared.party.Act.{Act};
 
 /// The diary of a journal that replays is that of its events, as the machine of a replica has it (`events`). So, of a replica of
 /// members within the limits of a fabric, the diary of a kept trace is honest, whatever was heard and in whatever order (`honest`).
-/// What a replica signs is what it says, in its order (`leaves`).
 pub fn honest_law()
     ensures events { (m : Maker) (journal : List Entry) → IsMade m journal → diary m journal ≡ diary_of m.roster m.id (map event_of journal) }
     ensures honest { HonestLaw }
-    ensures leaves { (m : Maker) (journal : List Entry) → said (diary m journal) ≡ signed_of m journal }
+{}
+
+/// What a replica signs is what it says in its diary, content by content, in order (`said`). Each sent item that it signs bears the
+/// signature that its key gives for the place of its content among what was signed, and is sent only where a leaf is left (`by_leaf`).
+pub fn signing_law()
+    ensures said { (m : Maker) (journal : List Entry) → said (diary m journal) ≡ signed_of m journal }
+    ensures by_leaf { ByLeafLaw }
+{}
+
+/// Every parcel of a replica that keeps its trace is sound: its bytes spell a message of its own, well formed for the members, in which
+/// each part bears a valid signature. It asks that the replica's key is in the ring, and that the key's signatures are valid under it.
+pub fn parcel_law()
+    ensures { ParcelLaw }
 {}
 
 /// The clock never falls along a journal (`rises`). After a hearing of a parcel it is above the parcel's time (`above`). Each parcel

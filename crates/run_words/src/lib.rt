@@ -16,14 +16,20 @@
 //! Code has the types that the definitions name, and the trait [`Party`], which a run asks of a replica. Nothing here decides anything.
 #![tactic(auto)]
 
+mod ends;
 mod faults;
 mod laws;
 mod logs;
+mod making;
 mod movers;
 mod party;
 
+pub use ends::{End, Evidence};
 pub use faults::Fault;
-pub use laws::{clock_law, honest_law, one_schedule_law, reading_law, run_law, told_law};
+pub use laws::{
+    clock_law, honest_law, one_schedule_law, parcel_law, reading_law, run_law, signing_law,
+    told_law,
+};
 pub use logs::{
     Contents, Entry, Journal, Origin, Parcel, Parcels, Pending, Trace, Traces, Transcript, Turned,
     TurnedList,
