@@ -15,6 +15,8 @@ use Rattle.fab_rules.specs.Rules.{IsHonest}
 use Rattle.fab_machine.specs.Items.{is_own}
 use Rattle.lms_tree.specs.declared.public.Public.{Public}
 use Rattle.lms_tree.specs.Verdict.{Valid}
+use Rattle.bft_verify.specs.declared.refusals.Refusal.{Refusal}
+use Rattle.bft_verify.specs.Answers.{IsFree}
 use Rattle.bft_verify.specs.Ring.{key_of}
 use Rattle.bft_verify.specs.Sound.{IsSound, signature_of}
 use Rattle.run_words.specs.declared.movers.Mover.{Mover}
@@ -204,6 +206,10 @@ ParcelLaw = (m : Maker) (t : Trace) → IsWithinLimits m.roster → IsTrue (is_r
 -- what is read is sound, and is spelled as it was read
 abbrev pub ReadingLaw : Type 0
 ReadingLaw = (m : Maker) (load : List ℕ) (x : Message) → reads m load ≡ Ok x → IsSound m.roster m.ring x × (spelling_of x ≡ load)
+
+-- what isn't read is refused for a cause in the bytes: want of memory is none
+abbrev pub RefusalLaw : Type 0
+RefusalLaw = (m : Maker) (load : List ℕ) (refusal : Refusal) → reads m load ≡ Err refusal → IsFree refusal → ⊥
 
 -- an ended run is lawful; it is settled where it wasn't cut off, and has as many entries as are allowed where it was
 abbrev pub RunLaw : Type 0

@@ -5,7 +5,7 @@ ghost use Rattle.fab_base.specs.declared.messages.Message.{Message};
 ghost use Rattle.fab_rules.specs.Lists.{In};
 ghost use Rattle.fab_machine.specs.Diaries.{diary_of};
 ghost use Rattle.run_words.specs.Journal.{Maker, event_of, diary, said, walk, clock, added, parcels_of, signed_of, IsMade};
-ghost use Rattle.run_words.specs.Lawful.{ByLeafLaw, HonestLaw, OneSchedule, ParcelLaw, ReadingLaw, RunLaw};
+ghost use Rattle.run_words.specs.Lawful.{ByLeafLaw, HonestLaw, OneSchedule, ParcelLaw, ReadingLaw, RefusalLaw, RunLaw};
 ghost use Rattle.run_words.specs.Acts.{would, made_by, told_of, told_entry, told_parcels};
 ghost use Rattle.run_words.specs.declared.logs.Origin.{Origin};
 ghost use Rattle.run_words.specs.declared.logs.Entry.{Entry};
@@ -49,9 +49,11 @@ pub fn told_law()
         → told_parcels (told_of m journal act) ≡ cond (would m journal act) (added m (walk m journal) (made_by m journal act)) [] }
 {}
 
-/// What is read is sound, and is spelled as it was read.
+/// What is read is sound, and is spelled as it was read (`read`). What isn't read is refused for a cause in the bytes, never for want of
+/// memory (`refused`).
 pub fn reading_law()
-    ensures { ReadingLaw }
+    ensures read { ReadingLaw }
+    ensures refused { RefusalLaw }
 {}
 
 /// An ended run is lawful. Where it wasn't cut off it is settled; where it was, its journals together have as many entries as were
