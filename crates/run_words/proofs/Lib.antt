@@ -13,3 +13,4 @@ pub mod Steps
 pub mod Naming
 pub mod Keeping
 pub mod Unique
+pub mod Alone

@@ -1,11 +1,13 @@
 //! The laws of journals and of runs.
-ghost use Rattle.std.specs.Prelude.{◌≡◌, ℕ, ◌<◌, ◌≤◌, ◌⊎◌, ◌++◌, List, [], ◌∷◌, map, cond};
+ghost use Rattle.std.specs.Prelude.{◌≡◌, ℕ, ◌<◌, ◌≤◌, ◌⊎◌, ◌++◌, List, [], ◌∷◌, map, cond, false};
 ghost use Rattle.fab_base.specs.declared.ids.ReplicaId.{ReplicaId};
 ghost use Rattle.fab_base.specs.declared.messages.Message.{Message};
 ghost use Rattle.fab_rules.specs.Lists.{In};
 ghost use Rattle.fab_machine.specs.Diaries.{diary_of};
 ghost use Rattle.run_words.specs.Journal.{Maker, event_of, diary, said, walk, clock, added, parcels_of, signed_of, IsMade};
-ghost use Rattle.run_words.specs.Lawful.{ByLeafLaw, HonestLaw, OneSchedule, ParcelLaw, ReadingLaw, RefusalLaw, RunLaw};
+ghost use Rattle.run_words.specs.Lawful.{ByLeafLaw, HonestLaw, OneSchedule, ParcelLaw, ReadingLaw, RefusalLaw, RunLaw, Sane};
+ghost use Rattle.run_words.specs.Runs.{IsSchedule, after, transcript};
+ghost use Rattle.run_words.specs.Examples.{lone_rules};
 ghost use Rattle.run_words.specs.Acts.{would, made_by, told_of, told_entry, told_parcels};
 ghost use Rattle.run_words.specs.declared.logs.Origin.{Origin};
 ghost use Rattle.run_words.specs.declared.logs.Entry.{Entry};
@@ -65,4 +67,12 @@ pub fn run_law()
 /// Rules have one run: two transcripts of it are equal.
 pub fn one_schedule_law()
     ensures { OneSchedule }
+{}
+
+/// What the laws of runs ask of rules can be met, and there is a run that ends: that of a replica alone, of which nothing is asked, whatever
+/// it signs with and whatever the generator's words are.
+pub fn run_example()
+    ensures sane { (leaves : ℕ) (signature : ℕ → List ℕ → List ℕ) (word : ℕ → ℕ) → Sane (lone_rules leaves signature word) }
+    ensures ended { (leaves : ℕ) (signature : ℕ → List ℕ → List ℕ) (word : ℕ → ℕ)
+        → IsSchedule (lone_rules leaves signature word) (transcript (lone_rules leaves signature word) (after (lone_rules leaves signature word) 3)) false }
 {}

@@ -12,6 +12,7 @@
 //! - `Lawful`: what is lawful of a transcript, and what is settled, said of each trace alone and of copies that are counted between
 //!   traces; and the laws.
 //! - `Acts`: what an act of a party does to its journal, and what is told of it.
+//! - `Examples`: the least run.
 //!
 //! Code has the types that the definitions name, and the trait [`Party`], which a run asks of a replica. Nothing here decides anything.
 #![tactic(auto)]
@@ -27,8 +28,8 @@ mod party;
 pub use ends::{End, Evidence};
 pub use faults::Fault;
 pub use laws::{
-    clock_law, honest_law, one_schedule_law, parcel_law, reading_law, run_law, signing_law,
-    told_law,
+    clock_law, honest_law, one_schedule_law, parcel_law, reading_law, run_example, run_law,
+    signing_law, told_law,
 };
 pub use logs::{
     Contents, Entry, Journal, Origin, Parcel, Parcels, Pending, Trace, Traces, Transcript, Turned,
