@@ -1,0 +1,10 @@
+pub mod ReadingFacts
+pub mod SeatFacts
+pub mod Picking
+pub mod Receiving
+pub mod Bridge
+pub mod Giving
+pub mod Picked
+pub mod Ready
+pub mod QuietMoments
+pub mod Opening

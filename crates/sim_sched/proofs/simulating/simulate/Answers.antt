@@ -1,0 +1,38 @@
+use Rattle.run_words.specs.Runs.{IsSchedule}
+use Rattle.run_words.proofs.Keeping.{run_law}
+use Rattle.std.proofs.Common.{◌≡◌, ◌∙◌, ap, sym, subst, map, List, length, arith, refl}
+use Rattle.run_words.specs.declared.logs.Transcript.{Transcript}
+use Rattle.sim_sched.specs.Seats.{seen, receive, AllOpen}
+use Rattle.sim_sched.specs.Whole.{rules_of, seat_trace}
+use Rattle.sim_sched.proofs.Opening.{ready_first, schedule, put_back}
+use Rattle.sim_sched.proofs.simulating.simulate.Goals as goal
+
+pub run_seats-requires-clause-ready : goal.run_seats-requires-clause-ready
+run_seats-requires-clause-ready g c =
+    let f = seen g.P.Party.made g.P.Party.journal g.P.Party.shut in
+    ready_first g.P.Party.made g.P.Party.journal g.P.Party.shut _ _ c.args.parties.items c.args.ids.now (map f c.deref_mut.result.now) c.requires.named c.requires.fresh c.requires.made
+    (ap (map f) c.deref_mut.ensures.value ∙ c.in_ok-seats.ensures)
+
+pub returns : goal.returns
+returns g c =
+    let made = g.P.Party.made in
+    let journal = g.P.Party.journal in
+    let shut = g.P.Party.shut in
+    let f = seen made journal shut in
+    let r = rules_of c.args.script (map made c.args.parties.items) c.args.requests.items in
+    let told : Transcript = record { script = c.args.script; traces = c.in_ok-traces.traces; timeouts_left = 0 } in
+    let v = c.deref_mut.ensures.value in
+    let m = ap length v in
+    let k = c.run_seats.auto.seats in
+    let n : c.in_ok-seats.seats.len ≡ length c.run_seats.new.seats = omega arith in
+    let back = put_back c.in_ok-seats.seats.len c.run_seats.new.seats _ n in
+    let opened = subst (λ l. AllOpen (map f l)) (sym back) c.in_ok-spent.ensures.open in
+    let whole : IsSchedule r told c.in_ok-spent.spent =
+    schedule made journal shut c.args.script c.args.parties.items c.args.ids.now c.args.requests.items c.from-turns.result
+    (map (receive c.args.requests.items) (map f c.deref_mut.result.now)) (map f c.run_seats.new.seats) _ c.in_ok-spent.spent c.in_ok-traces.traces
+    c.requires.named c.requires.apart c.requires.fresh c.from-turns.ensures
+    (ap (λ l. map (receive c.args.requests.items) (map f l)) v ∙ ap (map (receive c.args.requests.items)) c.in_ok-seats.ensures)
+    refl c.in_ok-spent.ensures.played
+    (c.in_ok-traces.ensures opened ∙ ap (λ l. map seat_trace (map f l)) back)
+    in
+    record { schedule = whole; lawful = λ sane. run_law r told c.in_ok-spent.spent sane whole }

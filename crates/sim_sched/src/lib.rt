@@ -1,0 +1,28 @@
+//! The one run of a script, in code: [`simulate`] drives any [`run_words::Party`] by the rules of a simulated run, and gives the
+//! transcript that these rules fix.
+//!
+//! Before each event the run is over where the journals together have as many entries as the script allows. Else the steps that can be
+//! made are counted: for each replica by id one for each copy on its way, in the order put, then a batch, a sending and an executing,
+//! each where it would make an entry. The generator's next word picks one of them; it is found by walking the seats, and no list of steps
+//! is ever made. Where there is none, each replica by id is nudged; where no nudge moves one, the run has ended.
+//!
+//! A parcel's bytes move from a party's answer to the copy on its way, and with it to the hearing; they are never copied. A copy that a
+//! replica refuses is noted by its number, and is let go.
+//!
+//! Modules: `seats` has a replica's place in a run, `reading` what a receiver makes of bytes, `acting` the events at one seat, `choosing`
+//! counts and finds steps, `putting` brings copies to their receivers, `stepping` makes one step, `playing` has the rules and quiet
+//! moments (`nudging` what came of one), `simulating` the call. What is said of seats is in `specs/`: a seat is seen as plain data
+//! (`Seats`), and the seats of a run are what the fold of `run_words` has at each replica.
+#![tactic(auto)]
+
+mod acting;
+mod choosing;
+mod nudging;
+mod playing;
+mod putting;
+mod reading;
+mod seats;
+mod simulating;
+mod stepping;
+
+pub use simulating::simulate;

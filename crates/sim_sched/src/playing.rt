@@ -1,0 +1,88 @@
+//! The rules of a run.
+ghost use Rattle.std.specs.Prelude.{◌≡◌, ℕ, ◌+◌, ◌<◌, ◌≤◌, Bool, true, false, map, length, IfOk};
+ghost use Rattle.sim_sched.specs.Seats.{seen, AllOpen};
+ghost use Rattle.sim_sched.specs.Putting.{AreDistinct};
+ghost use Rattle.sim_sched.specs.Simulating.{IsReady};
+ghost use Rattle.sim_sched.specs.Playing.{Nudged, Played};
+
+use crate::nudging::Nudges;
+use crate::reading::Reader;
+use crate::seats::Seat;
+use crate::stepping::{give_at, pick};
+use fab_base::{NoMemory, ReplicaId};
+use rand_chacha::ChaCha8Rng;
+use run_words::{Mover, Party};
+use std::alloc::AllocError;
+
+/// Nudges every replica, by id.
+fn nudge_all<P: Party>(
+    seats: &mut [Seat<P>],
+    ids: &[ReplicaId],
+    reader: &Reader,
+    turns: u64,
+    before: u64,
+) -> Result<Nudges, NoMemory>
+    requires ready { IsReady reader.now.members.now reader.now.ring.now ids.now (map (seen P.made P.journal P.shut) seats.old) }
+    requires apart { AreDistinct ids.now }
+    requires within { before ≤ turns }
+    ensures ready { IfOk result (λ told. IsReady reader.now.members.now reader.now.ring.now ids.now (map (seen P.made P.journal P.shut) seats.new)) }
+    ensures within { IfOk result (λ told. told.entries ≤ turns) }
+    ensures nudged { IfOk result (λ told. Nudged (map (seen P.made P.journal P.shut) seats.old) before turns told (map (seen P.made P.journal P.shut) seats.new)) }
+{
+    let mut moved = false;
+    let mut entries = before;
+    for place in 0..seats.len() {
+        if entries >= turns {
+            return Ok(Nudges {
+                spent: true,
+                moved,
+                entries,
+            });
+        }
+        if give_at(seats, ids, reader.alloc, place, Mover::Nudge)? {
+            moved = true;
+            entries += 1;
+        }
+    }
+    Ok(Nudges {
+        spent: false,
+        moved,
+        entries,
+    })
+}
+
+/// Plays a run to its end. Whether it was cut off.
+pub(crate) fn play<P: Party>(
+    seats: &mut [Seat<P>],
+    ids: &[ReplicaId],
+    reader: &Reader,
+    turns: u64,
+    generator: &mut ChaCha8Rng,
+) -> Result<bool, NoMemory>
+    requires ready { IsReady reader.now.members.now reader.now.ring.now ids.now (map (seen P.made P.journal P.shut) seats.old) }
+    requires apart { AreDistinct ids.now }
+    ensures open { IfOk result (λ spent. AllOpen (map (seen P.made P.journal P.shut) seats.new)) }
+    ensures played { IfOk result (λ spent. Played turns (map (seen P.made P.journal P.shut) seats.old) generator.old spent (map (seen P.made P.journal P.shut) seats.new)) }
+{
+    let mut entries: u64 = 0;
+    for _event in 0..u64::MAX {
+        if entries >= turns {
+            return Ok(true);
+        }
+        match pick(seats, ids, reader, generator)? {
+            Some(true) => entries += 1,
+            Some(false) => {}
+            None => {
+                let told = nudge_all(seats, ids, reader, turns, entries)?;
+                if told.spent {
+                    return Ok(true);
+                }
+                if !told.moved {
+                    return Ok(false);
+                }
+                entries = told.entries;
+            }
+        }
+    }
+    Err(AllocError)
+}
