@@ -1,11 +1,9 @@
 -- What is left at the seats when an event is given at a place.
 use Rattle.std.proofs.Common.{◌≡◌, ℕ, zero, suc, ◌<◌, Bool, true, false, cond, List, [], ◌∷◌, map, length, get_or, set, refl, sym, ap, subst, ◌∙◌, arith, Ok, Err, Result, IfOk}
 use Rattle.fab_base.specs.declared.ids.ReplicaId.{ReplicaId}
-use Rattle.fab_base.specs.declared.messages.Message.{Message}
 use Rattle.run_words.specs.declared.movers.Mover.{Mover}
 use Rattle.run_words.specs.declared.logs.Parcel.{Parcel}
 use Rattle.run_words.specs.declared.logs.Pending.{Pending}
-use Rattle.bft_verify.specs.declared.refusals.Refusal.{Refusal}
 use Rattle.run_words.specs.Runs.{copy_of}
 use Rattle.run_words.specs.Journal.{Maker, moves, entry_of, reads}
 use Rattle.sim_sched.specs.Seats.{SeatView, receive, seat_given, parcels_given, seat_heard, with_one, is_read}

@@ -1,10 +1,8 @@
 -- One nudge of the code is one step of the fold.
-use Rattle.std.proofs.Common.{◌≡◌, ℕ, zero, suc, ◌+◌, ◌<◌, ◌≤◌, Bool, true, false, cond, ◌||◌, List, [], ◌∷◌, map, length, get_or, drop, refl, sym, ap, subst, ◌∙◌, arith, add-one, add-zero, Result, Some, None, not}
+use Rattle.std.proofs.Common.{◌≡◌, ℕ, zero, suc, ◌+◌, ◌<◌, ◌≤◌, Bool, true, false, cond, ◌||◌, List, [], ◌∷◌, map, length, get_or, drop, refl, sym, ap, subst, ◌∙◌, arith, add-one, add-zero, Some, None, not}
 use Rattle.std.proofs.lemmas.Bool.Decides.{nat_tests}
 use Rattle.fab_base.specs.declared.ids.ReplicaId.{ReplicaId}
-use Rattle.fab_base.specs.declared.messages.Message.{Message}
 use Rattle.run_words.specs.declared.movers.Mover.{Mover}
-use Rattle.bft_verify.specs.declared.refusals.Refusal.{Refusal}
 use Rattle.fab_base.specs.Limits.{Roster}
 use Rattle.bft_verify.specs.Ring.{Ring}
 use Rattle.run_words.specs.Journal.{Maker, moves}

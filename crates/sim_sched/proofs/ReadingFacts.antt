@@ -1,12 +1,11 @@
 -- A refusal that is answered has its cause in the bytes.
-use Rattle.std.proofs.Common.{◌≡◌, ◌⊎◌, inl, inr, ℕ, List, Result, Ok, Err, refl, sym, ap, subst, ◌∙◌, true, if◌then◌else◌, Bool}
+use Rattle.std.proofs.Common.{◌≡◌, ◌⊎◌, inl, inr, ℕ, List, Ok, Err, refl, ap, ◌∙◌, true, if◌then◌else◌, Bool}
 use Rattle.fab_base.specs.Limits.{Roster}
 use Rattle.fab_base.specs.Fields.{are_bytes}
-use Rattle.fab_base.specs.declared.messages.Message.{Message}
 use Rattle.fab_codec.specs.declared.faults.CodeFault.{CodeFault}
 use Rattle.msg_read.specs.Reading.{reading_of}
 use Rattle.bft_verify.specs.Admitted.{Admitted}
-use Rattle.bft_verify.specs.Answers.{IsFree, Answers, judged_as_read}
+use Rattle.bft_verify.specs.Answers.{IsFree, judged_as_read}
 use Rattle.bft_verify.specs.Ring.{Ring}
 use Rattle.bft_verify.specs.declared.refusals.Refusal.{Refusal}
 use Rattle.run_words.specs.Journal.{Maker, reads}

@@ -1,6 +1,5 @@
 -- What a call of a party leaves at its seat.
-use Rattle.std.proofs.Common.{◌≡◌, ℕ, zero, suc, ◌+◌, ◌<◌, Bool, true, false, cond, not, ◌&&◌, List, [], ◌∷◌, ◌++◌, length, refl, sym, ap, ◌∙◌, arith, Ok, Err, Result, remove, length-append, get_or}
-use Rattle.fab_base.specs.declared.messages.Message.{Message}
+use Rattle.std.proofs.Common.{◌≡◌, ℕ, zero, suc, ◌+◌, ◌<◌, Bool, true, false, cond, not, ◌&&◌, List, [], ◌∷◌, ◌++◌, length, refl, sym, ap, ◌∙◌, arith, Ok, Err, remove, length-append, get_or}
 use Rattle.bft_verify.specs.Admitted.{Admitted}
 use Rattle.bft_verify.specs.declared.refusals.Refusal.{Refusal}
 use Rattle.run_words.specs.declared.logs.Entry.{Entry}

@@ -1,8 +1,6 @@
 -- From the start of a run to its end.
-use Rattle.std.specs.Prelude.{◌≡◌, ℕ, Bool, true, false, List, [], map, length, Result}
-use Rattle.fab_base.specs.declared.messages.Message.{Message}
+use Rattle.std.specs.Prelude.{◌≡◌, ℕ, Bool, true, false, List, [], map, length}
 use Rattle.run_words.specs.Runs.{Rules, Run, Phase, start, after}
-use Rattle.bft_verify.specs.declared.refusals.Refusal.{Refusal}
 use Rattle.rand_chacha.specs.ChaCha.{ChaCha}
 use Rattle.sim_sched.specs.Seats.{SeatView, seat_in}
 use Rattle.sim_sched.specs.Simulating.{IsAt, AreRules, generator_at}

@@ -1,12 +1,10 @@
 -- Copies that come to seats.
-use Rattle.std.specs.Prelude.{◌≡◌, ℕ, false, List, [], ◌∷◌, ◌++◌, map, slice_set, Result}
+use Rattle.std.specs.Prelude.{◌≡◌, ℕ, false, List, [], ◌∷◌, ◌++◌, map, slice_set}
 use Rattle.fab_base.specs.declared.ids.ReplicaId.{ReplicaId}
-use Rattle.fab_base.specs.declared.messages.Message.{Message}
 use Rattle.run_words.specs.Keyed.{is_same}
 use Rattle.run_words.specs.Runs.{copy_of}
 use Rattle.run_words.specs.declared.movers.Mover.{Mover}
 use Rattle.run_words.specs.declared.logs.Pending.{Pending}
-use Rattle.bft_verify.specs.declared.refusals.Refusal.{Refusal}
 use Rattle.sim_sched.specs.Seats.{SeatView, receive, seat_given, parcels_given, seat_heard}
 
 abbrev pub IsNone : ReplicaId → List ReplicaId → Type 0

@@ -1,14 +1,12 @@
 -- How seats and a generator stand to a run.
-use Rattle.std.specs.Prelude.{◌≡◌, ℕ, ◌+◌, ◌%◌, ◌^◌, Bool, false, cond, List, map, length, slice_index_or, Result, Option, Some, None, [], ◌∷◌}
+use Rattle.std.specs.Prelude.{◌≡◌, ℕ, ◌+◌, ◌%◌, ◌^◌, Bool, false, cond, List, map, length, slice_index_or, Option, Some, None, [], ◌∷◌}
 use Rattle.fab_base.specs.declared.ids.ReplicaId.{ReplicaId}
-use Rattle.fab_base.specs.declared.messages.Message.{Message}
 use Rattle.fab_base.specs.Limits.{Roster}
 use Rattle.bft_verify.specs.Ring.{Ring}
 use Rattle.run_words.specs.Journal.{moves, reads}
 use Rattle.run_words.specs.Lawful.{AreApart}
 use Rattle.run_words.specs.Runs.{Rules, Run, Phase, next, steps, is_spent}
 use Rattle.run_words.specs.declared.logs.Pending.{Pending}
-use Rattle.bft_verify.specs.declared.refusals.Refusal.{Refusal}
 use Rattle.rand_chacha.specs.ChaCha.{ChaCha, word_at}
 use Rattle.sim_sched.specs.declared.seats.Choice.{Choice}
 use Rattle.sim_sched.specs.Seats.{SeatView, seat_in, is_read, AllOpen}

@@ -1,6 +1,6 @@
-use Rattle.std.proofs.Common.{◌∙◌, ap, refl}
+use Rattle.std.proofs.Common.{◌∙◌}
 use Rattle.run_words.specs.declared.party.Told.{Told}
-use Rattle.sim_sched.proofs.SeatFacts.{given, does_of, stays_open}
+use Rattle.sim_sched.proofs.SeatFacts.{given}
 use Rattle.sim_sched.proofs.seats.Seat.give.Goals as goal
 
 pub returns-in-Core : goal.returns-in-Core
