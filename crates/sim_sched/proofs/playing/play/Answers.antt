@@ -19,7 +19,7 @@ returns-then-told g c =
     record {
       «open» = c.in_ok-told-in-None.ensures.ready.open_all;
       played = play_cut c.args.reader.now.members.now c.args.reader.now.ring.now c.args.ids.now _ _ _ (map f c.loop-event.seats) (map f c.pick.new.seats) _ c.loop-event.generator c.pick.new.generator c.loop-event.entries c.in_ok-told-in-None.told (omega arith) x
-    c.in_ok-told-in-None.ensures.nudged c.if-told.true c.loop-event.invariant;
+          c.in_ok-told-in-None.ensures.nudged c.if-told.true c.loop-event.invariant;
     }
 
 pub returns-then-not-told : goal.returns-then-not-told
@@ -30,7 +30,7 @@ returns-then-not-told g c =
     record {
       «open» = c.in_ok-told-in-None.ensures.ready.open_all;
       played = play_settled c.args.reader.now.members.now c.args.reader.now.ring.now c.args.ids.now _ _ _ (map f c.loop-event.seats) (map f c.pick.new.seats) _ c.loop-event.generator c.pick.new.generator c.loop-event.entries c.in_ok-told-in-None.told (omega arith) x
-    c.in_ok-told-in-None.ensures.nudged c.if-told.false (not_true _ c.if-not-told.true) c.loop-event.invariant;
+          c.in_ok-told-in-None.ensures.nudged c.if-told.false (not_true _ c.if-not-told.true) c.loop-event.invariant;
     }
 
 pub loop-event-preserved : goal.loop-event-preserved
