@@ -32,7 +32,8 @@ placed [] k h = absurd (omega arith)
 placed (n ∷ rest) zero h = (n, refl)
 placed (n ∷ rest) (suc k) h = placed rest k (omega arith)
 
-pub placed_view : (F : Maker → SeatView) (makers : List Maker) (k : ℕ) (m : Maker) (d : SeatView) → IsPlaced k makers m → get_or (map F makers) k d ≡ F m
+pub placed_view : (F : Maker → SeatView) (makers : List Maker) (k : ℕ) (m : Maker) (d : SeatView) → IsPlaced k makers m
+    → get_or (map F makers) k d ≡ F m
 placed_view F [] k m d p = absurd p
 placed_view F (n ∷ rest) zero m d p = ap F p
 placed_view F (n ∷ rest) (suc k) m d p = placed_view F rest k m d p
@@ -58,11 +59,13 @@ apart_in m n (x ∷ rest) a (inr i) = apart_in m n rest a.1 i
 turned_over : (a b : ReplicaId) → is_same a b ≡ false → is_same b a ≡ false
 turned_over a b e = other_turned a b e
 
-pub set_mapped : (F G : Maker → SeatView) (makers : List Maker) (k : ℕ) (m : Maker) (v : SeatView) → AreApart makers → IsPlaced k makers m → G m ≡ v → ((n : Maker) → is_same n.id m.id ≡ false → G n ≡ F n) → set (map F makers) k v ≡ map G makers
+pub set_mapped : (F G : Maker → SeatView) (makers : List Maker) (k : ℕ) (m : Maker) (v : SeatView) → AreApart makers → IsPlaced k makers m
+    → G m ≡ v → ((n : Maker) → is_same n.id m.id ≡ false → G n ≡ F n) → set (map F makers) k v ≡ map G makers
 set_mapped F G [] k m v a p e h = absurd p
 set_mapped F G (x ∷ rest) zero m v a p e h =
     ap (λ y. y ∷ map F rest) (sym e ∙ ap G (sym p))
-    ∙ ap (λ l. G x ∷ l) (same_map F G rest (λ n i. sym (h n (subst (λ (y : Maker). is_same n.id y.id ≡ false) p (turned_over _ _ (apart_in x n rest a.0 i))))))
+    ∙ ap (λ l. G x ∷ l) (same_map F G rest
+    (λ n i. sym (h n (subst (λ (y : Maker). is_same n.id y.id ≡ false) p (turned_over _ _ (apart_in x n rest a.0 i))))))
 set_mapped F G (x ∷ rest) (suc k) m v a p e h =
     ap (λ y. y ∷ set (map F rest) k v) (sym (h x (apart_in x m rest a.0 (placed_in rest k m p))))
     ∙ ap (λ l. G x ∷ l) (set_mapped F G rest k m v a.1 p e h)
@@ -92,30 +95,40 @@ entered_there n m e run h =
     let f : List Entry → SeatView = λ l. record (seat_in run n) { journal = l } in
     ap f (of_kept n.id m.id run.done e h)
 
-put_there : (n m : Maker) (e : Entry) (run : Run) → receive (map (copy_of m.id) (added m (walk m (journal_in run m)) e)) (seat_in (done_more m e run) n) ≡ seat_in (with_entry m e run) n
+put_there : (n m : Maker) (e : Entry) (run : Run)
+    → receive (map (copy_of m.id) (added m (walk m (journal_in run m)) e)) (seat_in (done_more m e run) n) ≡ seat_in (with_entry m e run) n
 unfolding with_entry
 put_there n m e run =
     let f : List Pending → SeatView = λ l. record (seat_in (done_more m e run) n) { way = l } in
     ap f (sym (of-append n.id run.way (map (copy_of m.id) (added m (walk m (journal_in run m)) e))))
 
-entered : (r : Rules) (run : Run) (k : ℕ) (m : Maker) (e : Entry) → AreApart r.makers → IsPlaced k r.makers m → map (receive (map (copy_of m.id) (added m (walk m (journal_in run m)) e))) (set (map (seat_in run) r.makers) k (with_one e (seat_in run m))) ≡ map (seat_in (with_entry m e run)) r.makers
+entered : (r : Rules) (run : Run) (k : ℕ) (m : Maker) (e : Entry) → AreApart r.makers → IsPlaced k r.makers m
+    → map (receive (map (copy_of m.id) (added m (walk m (journal_in run m)) e)))
+    (set (map (seat_in run) r.makers) k (with_one e (seat_in run m))) ≡ map (seat_in (with_entry m e run)) r.makers
 entered r run k m e a p =
     let copies = map (copy_of m.id) (added m (walk m (journal_in run m)) e) in
-    ap (map (receive copies)) (set_mapped (seat_in run) (seat_in (done_more m e run)) r.makers k m (with_one e (seat_in run m)) a p (entered_here m e run) (λ n h. entered_there n m e run h))
+    ap (map (receive copies))
+    (set_mapped (seat_in run) (seat_in (done_more m e run)) r.makers k m (with_one e (seat_in run m)) a p (entered_here m e run)
+    (λ n h. entered_there n m e run h))
     ∙ both_maps (receive copies) (seat_in (done_more m e run)) r.makers
     ∙ same_map (λ n. receive copies (seat_in (done_more m e run) n)) (seat_in (with_entry m e run)) r.makers (λ n i. put_there n m e run)
 
-unchanged : (r : Rules) (run : Run) (k : ℕ) (m : Maker) → AreApart r.makers → IsPlaced k r.makers m → map (receive []) (set (map (seat_in run) r.makers) k (seat_in run m)) ≡ map (seat_in run) r.makers
+unchanged : (r : Rules) (run : Run) (k : ℕ) (m : Maker) → AreApart r.makers → IsPlaced k r.makers m
+    → map (receive []) (set (map (seat_in run) r.makers) k (seat_in run m)) ≡ map (seat_in run) r.makers
 unchanged r run k m a p = received_none _ ∙ set_mapped (seat_in run) (seat_in run) r.makers k m (seat_in run m) a p refl (λ n h. refl)
 
-pub given_is : (r : Rules) (run : Run) (k : ℕ) (m : Maker) (mover : Mover) → AreApart r.makers → IsPlaced k r.makers m → given_at k mover (seat_in run m) (map (seat_in run) r.makers) ≡ map (seat_in (give m mover run)) r.makers
+pub given_is : (r : Rules) (run : Run) (k : ℕ) (m : Maker) (mover : Mover) → AreApart r.makers → IsPlaced k r.makers m
+    → given_at k mover (seat_in run m) (map (seat_in run) r.makers) ≡ map (seat_in (give m mover run)) r.makers
 unfolding give seat_given parcels_given
 given_is r run k m mover a p = go (moves m (journal_in run m) mover)
   where
     e : Entry
     e = entry_of m (journal_in run m) mover
 
-    go : (b : Bool) → map (receive (map (copy_of m.id) (cond b (added m (walk m (journal_in run m)) (entry_of m (journal_in run m) mover)) []))) (set (map (seat_in run) r.makers) k (cond b (with_one (entry_of m (journal_in run m) mover) (seat_in run m)) (seat_in run m))) ≡ map (seat_in (cond b (with_entry m (entry_of m (journal_in run m) mover) run) run)) r.makers
+    go : (b : Bool)
+        → map (receive (map (copy_of m.id) (cond b (added m (walk m (journal_in run m)) (entry_of m (journal_in run m) mover)) [])))
+        (set (map (seat_in run) r.makers) k (cond b (with_one (entry_of m (journal_in run m) mover) (seat_in run m)) (seat_in run m)))
+        ≡ map (seat_in (cond b (with_entry m (entry_of m (journal_in run m) mover) run) run)) r.makers
     go true = entered r run k m (entry_of m (journal_in run m) mover) a p
     go false = unchanged r run k m a p
 
@@ -140,34 +153,43 @@ more_turned l d = flat_map-append turned_of l (d ∷ []) ∙ ap (λ q. flat_map 
 turned_here : (m : Maker) (k : ℕ) (c : Pending) (x : Refusal) (run : Run) → seat_in (turned_too m k c x run) m ≡ with_turned c.origin c.number x (record (seat_in run m) { way = remove (waiting_in run m) k })
 turned_here m k c x run =
     let d : Declined = record { copy = c; refusal = x } in
-    let f : List Pending → SeatView = λ l. record (seat_in run m) { way = l; turned = flat_map turned_of (of m.id (run.turned ++ (m.id, d) ∷ [])) } in
+    let f : List Pending → SeatView = λ l. record
+    (seat_in run m) { way = l; turned = flat_map turned_of (of m.id (run.turned ++ (m.id, d) ∷ [])) } in
     let g : List Turned → SeatView = λ l. record (seat_in run m) { way = remove (waiting_in run m) k; turned = l } in
     ap f (of_without m.id k run.way)
-    ∙ ap g (ap (λ (l : List Declined). flat_map turned_of l) (of_more m.id m.id run.turned d (same_self m.id)) ∙ more_turned (declined_in run m) d)
+    ∙ ap g (ap (λ (l : List Declined). flat_map turned_of l) (of_more m.id m.id run.turned d (same_self m.id))
+    ∙ more_turned (declined_in run m) d)
 
-turned_there : (n m : Maker) (k : ℕ) (c : Pending) (x : Refusal) (run : Run) → is_same n.id m.id ≡ false → seat_in (turned_too m k c x run) n ≡ seat_in run n
+turned_there : (n m : Maker) (k : ℕ) (c : Pending) (x : Refusal) (run : Run) → is_same n.id m.id ≡ false
+    → seat_in (turned_too m k c x run) n ≡ seat_in run n
 turned_there n m k c x run h =
     let d : Declined = record { copy = c; refusal = x } in
-    let f : List Pending → SeatView = λ l. record (seat_in run n) { way = l; turned = flat_map turned_of (of n.id (run.turned ++ (m.id, d) ∷ [])) } in
+    let f : List Pending → SeatView = λ l. record
+    (seat_in run n) { way = l; turned = flat_map turned_of (of n.id (run.turned ++ (m.id, d) ∷ [])) } in
     let g : List Declined → SeatView = λ l. record (seat_in run n) { turned = flat_map turned_of l } in
     ap f (of_without_other n.id m.id k run.way h) ∙ ap g (of_kept n.id m.id run.turned d h)
 
 -- hearing puts nothing
-heard_entry : (m : Maker) (e : Entry) (run : Run) → added m (walk m (journal_in run m)) e ≡ [] → (n : Maker) → seat_in (with_entry m e run) n ≡ seat_in (done_more m e run) n
+heard_entry : (m : Maker) (e : Entry) (run : Run) → added m (walk m (journal_in run m)) e ≡ [] → (n : Maker)
+    → seat_in (with_entry m e run) n ≡ seat_in (done_more m e run) n
 unfolding with_entry
 heard_entry m e run h n =
     let f : List Pending → SeatView = λ l. record (seat_in (done_more m e run) n) { way = l } in
     ap f (of-append n.id run.way _ ∙ ap (λ l. of n.id run.way ++ of n.id (map (copy_of m.id) l)) h ∙ append-nil (of n.id run.way))
 
-nothing_put : (m : Maker) (k : ℕ) (c : Pending) (x : Message) (run : Run) → added m (walk m (journal_in (taken_out m k run) m)) (Entry.Heard c.origin x) ≡ []
+nothing_put : (m : Maker) (k : ℕ) (c : Pending) (x : Message) (run : Run)
+    → added m (walk m (journal_in (taken_out m k run) m)) (Entry.Heard c.origin x) ≡ []
 unfolding added
 nothing_put m k c x run = refl
 
-pub heard_is : (r : Rules) (run : Run) (place : ℕ) (m : Maker) (k : ℕ) (c : Pending) → AreApart r.makers → IsPlaced place r.makers m → heard_at place k c (seat_in run m) (map (seat_in run) r.makers) ≡ map (seat_in (hear m k c run)) r.makers
+pub heard_is : (r : Rules) (run : Run) (place : ℕ) (m : Maker) (k : ℕ) (c : Pending) → AreApart r.makers → IsPlaced place r.makers m
+    → heard_at place k c (seat_in run m) (map (seat_in run) r.makers) ≡ map (seat_in (hear m k c run)) r.makers
 unfolding hear seat_heard
 heard_is r run place m k c a p = go (reads m c.load)
   where
-    go : (q : Result Message Refusal) → set (map (seat_in run) r.makers) place (heard_by c (record (seat_in run m) { way = remove (waiting_in run m) k }) q) ≡ map (seat_in (hear_by m c (taken_out m k run) q)) r.makers
+    go : (q : Result Message Refusal)
+        → set (map (seat_in run) r.makers) place (heard_by c (record (seat_in run m) { way = remove (waiting_in run m) k }) q)
+        ≡ map (seat_in (hear_by m c (taken_out m k run) q)) r.makers
     go (Ok x) =
         let e : Entry = Entry.Heard c.origin x in
         let run1 : Run = taken_out m k run in
@@ -175,7 +197,8 @@ heard_is r run place m k c a p = go (reads m c.load)
         (heard_entry m e run1 (nothing_put m k c x run) m ∙ entered_here m e run1 ∙ ap (with_one e) (out_here m k run))
         (λ n h. heard_entry m e run1 (nothing_put m k c x run) n ∙ entered_there n m e run1 h ∙ out_there n m k run h)
     go (Err refusal) =
-        set_mapped (seat_in run) (seat_in (turned_too m k c refusal run)) r.makers place m _ a p (turned_here m k c refusal run) (λ n h. turned_there n m k c refusal run h)
+        set_mapped (seat_in run) (seat_in (turned_too m k c refusal run)) r.makers place m _ a p (turned_here m k c refusal run)
+        (λ n h. turned_there n m k c refusal run h)
 
 -- ---- the number of entries
 
@@ -183,7 +206,8 @@ one_longer : (m : Maker) (e : Entry) (run : Run) → length (with_entry m e run)
 unfolding with_entry
 one_longer m e run = length-append run.done ((m.id, e) ∷ [])
 
-pub given_long : (m : Maker) (mover : Mover) (run : Run) → length (give m mover run).done ≡ length run.done + cond (moves m (journal_in run m) mover) 1 0
+pub given_long : (m : Maker) (mover : Mover) (run : Run)
+    → length (give m mover run).done ≡ length run.done + cond (moves m (journal_in run m) mover) 1 0
 unfolding give
 given_long m mover run = go (moves m (journal_in run m) mover)
   where
@@ -191,7 +215,8 @@ given_long m mover run = go (moves m (journal_in run m) mover)
     go true = one_longer m (entry_of m (journal_in run m) mover) run
     go false = sym (add-zero (length run.done))
 
-pub heard_long : (m : Maker) (k : ℕ) (c : Pending) (run : Run) → length (hear m k c run).done ≡ length run.done + cond (is_read (reads m c.load)) 1 0
+pub heard_long : (m : Maker) (k : ℕ) (c : Pending) (run : Run)
+    → length (hear m k c run).done ≡ length run.done + cond (is_read (reads m c.load)) 1 0
 unfolding hear
 heard_long m k c run = go (reads m c.load)
   where
@@ -201,9 +226,13 @@ heard_long m k c run = go (reads m c.load)
 
 -- ---- a step
 
-pub acted : (r : Rules) (run : Run) (place : ℕ) (m : Maker) (choice : Choice) (s : Step) (now : List SeatView) (grew : Bool) → AreApart r.makers → IsPlaced place r.makers m → IsChosen (seat_in run m) choice s → IsStep r run s → Acts place choice (seat_in run m) (map (seat_in run) r.makers) now grew → (now ≡ map (seat_in (take_step run s)) r.makers) × (length (take_step run s).done ≡ length run.done + cond grew 1 0)
+pub acted : (r : Rules) (run : Run) (place : ℕ) (m : Maker) (choice : Choice) (s : Step) (now : List SeatView) (grew : Bool)
+    → AreApart r.makers → IsPlaced place r.makers m → IsChosen (seat_in run m) choice s → IsStep r run s
+    → Acts place choice (seat_in run m) (map (seat_in run) r.makers) now grew
+    → (now ≡ map (seat_in (take_step run s)) r.makers) × (length (take_step run s).done ≡ length run.done + cond grew 1 0)
 acted r run place m (Choice.Hear j) (Step.Hear n k c) now grew a p x i h =
-    let at_m : get_or (waiting_in run m) j c ≡ c = subst (λ (y : Maker). get_or (waiting_in run y) j c ≡ c) x.0 (subst (λ q. get_or (waiting_in run n) q c ≡ c) x.1 i.2) in
+    let at_m : get_or (waiting_in run m) j c
+    ≡ c = subst (λ (y : Maker). get_or (waiting_in run y) j c ≡ c) x.0 (subst (λ q. get_or (waiting_in run n) q c ≡ c) x.1 i.2) in
     let d = h c at_m in
     let t : hear m j c run ≡ hear n k c run = ap (λ y. hear y j c run) (sym x.0) ∙ ap (λ q. hear n q c run) (sym x.1) in (
       d.0 ∙ heard_is r run place m j c a p ∙ ap (λ (y : Run). map (seat_in y) r.makers) t,

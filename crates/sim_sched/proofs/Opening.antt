@@ -36,11 +36,14 @@ module _ {P : Type 0} (made : P → Maker) (journal : P → List Entry) (shut : 
   open_fresh [] f = tt
   open_fresh (p ∷ rest) f = (f.0.1, open_fresh rest f.1)
 
-  made_fresh : (members : Roster) (ring : Ring) (parties : List P) → AreMadeWith made members ring parties → AllMadeWith members ring (map (empty_seat made journal shut) parties)
+  made_fresh : (members : Roster) (ring : Ring) (parties : List P) → AreMadeWith made members ring parties
+      → AllMadeWith members ring (map (empty_seat made journal shut) parties)
   made_fresh members ring [] f = tt
   made_fresh members ring (p ∷ rest) f = (f.0, made_fresh members ring rest f.1)
 
-  pub ready_first : (members : Roster) (ring : Ring) (parties : List P) (ids : List ReplicaId) (views : List SeatView) → ids ≡ map (λ p. (made p).id) parties → AreFresh journal shut parties → AreMadeWith made members ring parties → views ≡ map (empty_seat made journal shut) parties → IsReady members ring ids views
+  pub ready_first : (members : Roster) (ring : Ring) (parties : List P) (ids : List ReplicaId) (views : List SeatView)
+      → ids ≡ map (λ p. (made p).id) parties → AreFresh journal shut parties → AreMadeWith made members ring parties
+      → views ≡ map (empty_seat made journal shut) parties → IsReady members ring ids views
   ready_first members ring parties ids views i f m v =
       subst (λ (l : List SeatView). IsReady members ring ids l) (sym v)
       (record { named = i ∙ sym (ids_fresh parties); open_all = open_fresh parties f; made = made_fresh members ring parties m })
@@ -53,13 +56,15 @@ module _ {P : Type 0} (made : P → Maker) (journal : P → List Entry) (shut : 
   apart_makers [] d = tt
   apart_makers (p ∷ rest) d = (none_apart (made p) rest d.0, apart_makers rest d.1)
 
-  seat_first : (r : Rules) (p : P) → journal p ≡ [] → shut p ≡ false → receive r.requests (empty_seat made journal shut p) ≡ seat_in (start r) (made p)
+  seat_first : (r : Rules) (p : P) → journal p ≡ [] → shut p ≡ false
+      → receive r.requests (empty_seat made journal shut p) ≡ seat_in (start r) (made p)
   seat_first r p j s =
       let f : List Entry → SeatView = λ l. record (receive r.requests (empty_seat made journal shut p)) { journal = l } in
       let g : Bool → SeatView = λ b. record (seat_in (start r) (made p)) { shut = b } in
       ap f j ∙ ap g s
 
-  seats_first : (r : Rules) (parties : List P) → AreFresh journal shut parties → map (receive r.requests) (map (empty_seat made journal shut) parties) ≡ map (seat_in (start r)) (map made parties)
+  seats_first : (r : Rules) (parties : List P) → AreFresh journal shut parties
+      → map (receive r.requests) (map (empty_seat made journal shut) parties) ≡ map (seat_in (start r)) (map made parties)
   seats_first r [] f = refl
   seats_first r (p ∷ rest) f =
       ap (λ x. x ∷ map (receive r.requests) (map (empty_seat made journal shut) rest)) (seat_first r p f.0.0 f.0.1)
@@ -69,7 +74,11 @@ module _ {P : Type 0} (made : P → Maker) (journal : P → List Entry) (shut : 
   traces_of run [] = refl
   traces_of run (m ∷ rest) = ap (λ l. trace_in run m ∷ l) (traces_of run rest)
 
-  pub schedule : (script : Script) (parties : List P) (ids : List ReplicaId) (requests : List (ReplicaId × Pending)) (limit : ℕ) (views now : List SeatView) (g : ChaCha) (spent : Bool) (traces : List Trace) → ids ≡ map (λ p. (made p).id) parties → AreDistinct ids → AreFresh journal shut parties → limit ≡ script.turns → views ≡ map (receive requests) (map (empty_seat made journal shut) parties) → g ≡ of_seed (seed_bytes script.seed) → Played limit views g spent now → traces ≡ map seat_trace now → IsSchedule (rules_of script (map made parties) requests) (record { script = script; traces = traces; timeouts_left = 0 }) spent
+  pub schedule : (script : Script) (parties : List P) (ids : List ReplicaId) (requests : List (ReplicaId × Pending)) (limit : ℕ)
+      (views now : List SeatView) (g : ChaCha) (spent : Bool) (traces : List Trace) → ids ≡ map (λ p. (made p).id) parties → AreDistinct ids
+      → AreFresh journal shut parties → limit ≡ script.turns → views ≡ map (receive requests) (map (empty_seat made journal shut) parties)
+      → g ≡ of_seed (seed_bytes script.seed) → Played limit views g spent now → traces ≡ map seat_trace now
+      → IsSchedule (rules_of script (map made parties) requests) (record { script = script; traces = traces; timeouts_left = 0 }) spent
   schedule script parties ids requests limit views now g spent traces i d f t v w played e =
       let r = rules_of script (map made parties) requests in
       let rules : AreRules r (key_of (seed_bytes script.seed)) limit =
@@ -80,18 +89,22 @@ module _ {P : Type 0} (made : P → Maker) (journal : P → List Entry) (shut : 
       let f : List Trace → Transcript = λ l. record { script = script; traces = l; timeouts_left = 0 } in
       (cut.0, cut.1, ap f (e ∙ ap (map seat_trace) cut.2 ∙ traces_of (after r cut.0) (map made parties)))
 
-open_more : {X : Type 0} (f : X → SeatView) (xs : List X) (x : X) → AllOpen (map f (xs ++ x ∷ [])) → AllOpen (map f xs) × ((f x).shut ≡ false)
+open_more : {X : Type 0} (f : X → SeatView) (xs : List X) (x : X) → AllOpen (map f (xs ++ x ∷ []))
+    → AllOpen (map f xs) × ((f x).shut ≡ false)
 open_more f [] x a = (tt, a.0)
 open_more f (y ∷ ys) x a = let r = open_more f ys x a.1 in ((a.0, r.0), r.1)
 
 -- a trace more
-pub collected : {X : Type 0} (f : X → SeatView) (xs : List X) (x : X) (traces now : List Trace) (t : Trace) → (AllOpen (map f xs) → traces ≡ map seat_trace (map f xs)) → ((f x).shut ≡ false → t ≡ seat_trace (f x)) → now ≡ traces ++ t ∷ [] → AllOpen (map f (xs ++ x ∷ [])) → now ≡ map seat_trace (map f (xs ++ x ∷ []))
+pub collected : {X : Type 0} (f : X → SeatView) (xs : List X) (x : X) (traces now : List Trace) (t : Trace)
+    → (AllOpen (map f xs) → traces ≡ map seat_trace (map f xs)) → ((f x).shut ≡ false → t ≡ seat_trace (f x)) → now ≡ traces ++ t ∷ []
+    → AllOpen (map f (xs ++ x ∷ [])) → now ≡ map seat_trace (map f (xs ++ x ∷ []))
 collected f xs x traces now t h s e a =
     let o = open_more f xs x a in
     e ∙ ap (λ l. l ++ t ∷ []) (h o.0) ∙ ap (λ y. map seat_trace (map f xs) ++ y ∷ []) (s o.1)
     ∙ sym (ap (map seat_trace) (mapped_more f xs x) ∙ mapped_more seat_trace (map f xs) (f x))
 
-pub played_so : {E : Type 0} (turns : ℕ) (views first now : List SeatView) (g h : ChaCha) (told : Result Bool E) → views ≡ first → g ≡ h → IfOk told (λ spent. Played turns views g spent now) → IfOk told (λ spent. Played turns first h spent now)
+pub played_so : {E : Type 0} (turns : ℕ) (views first now : List SeatView) (g h : ChaCha) (told : Result Bool E) → views ≡ first → g ≡ h
+    → IfOk told (λ spent. Played turns views g spent now) → IfOk told (λ spent. Played turns first h spent now)
 played_so turns views first now g h (Err e) v w t = tt
 played_so turns views first now g h (Ok spent) v w t =
     subst (λ (q : ChaCha). Played turns first q spent now) w (subst (λ (l : List SeatView). Played turns l g spent now) v t)

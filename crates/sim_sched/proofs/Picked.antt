@@ -62,7 +62,8 @@ next_at : (r : Rules) (run : Run) → run.phase ≡ Phase.Pick → is_spent r ru
 next_at r run p s =
     ap (next_in r run) p ∙ ap (λ b. cond b (record run { phase = Phase.Ended true }) (pick_from r run (steps r run))) s
 
-pub none_at : (r : Rules) (key : List ℕ) (run : Run) (views : List SeatView) (generator : ChaCha) (entries : ℕ) → IsAt r key run views generator entries → length (all_steps views) ≡ 0 → steps r run ≡ []
+pub none_at : (r : Rules) (key : List ℕ) (run : Run) (views : List SeatView) (generator : ChaCha) (entries : ℕ)
+    → IsAt r key run views generator entries → length (all_steps views) ≡ 0 → steps r run ≡ []
 none_at r key run views generator entries a e =
     let q : all_steps views ≡ steps r run = ap all_steps a.seated ∙ steps_all run r.makers in
     empty (steps r run) (ap length (sym q) ∙ e)
@@ -79,9 +80,11 @@ picked_of r key run views generator entries number place own choice now grew l q
     let w = f.within in
     let p = placed r.makers place (omega arith) in
     let v : SeatView = seat_in run p.0 in
-    let here : get_or views place v ≡ v = ap (λ (k : List SeatView). get_or k place v) a.seated ∙ placed_view (seat_in run) r.makers place p.0 v p.1 in
+    let here : get_or views place v ≡ v = ap (λ (k : List SeatView). get_or k place v) a.seated
+    ∙ placed_view (seat_in run) r.makers place p.0 v p.1 in
     let st : Step = get_or l number s in
-    let found : get_or (all_steps views) number s ≡ get_or (seat_steps v) own s = f.same v s ∙ ap (λ (y : SeatView). get_or (seat_steps y) own s) here in
+    let found : get_or (all_steps views) number s ≡ get_or (seat_steps v) own s = f.same v s
+    ∙ ap (λ (y : SeatView). get_or (seat_steps y) own s) here in
     let same : st ≡ get_or (seat_steps v) own s = ap (λ (k : List Step). get_or k number s) (sym e) ∙ found in
     let chosen : IsChosen v choice st = subst (λ (y : Step). IsChosen v choice y) (sym same) (x v s here) in
     let all : AreSteps r run l = subst (λ (k : List Step). AreSteps r run k) q (steps_made r run) in
@@ -93,7 +96,8 @@ picked_of r key run views generator entries number place own choice now grew l q
     let goal_run : pick_from r run l ≡ take_step (picking run) st =
     ap (pick_from r run) z ∙ ap (λ (k : List Step). take_step (picking run) (get_or k (r.word run.picks % length k) s)) (sym z)
     ∙ ap (λ k. take_step (picking run) (get_or l k s)) (sym n) in
-    subst (λ (y : Run). IsAt r key y now (record generator { word_pos = (generator.word_pos + 1) % 2 ^ 68 }) (entries + cond grew 1 0)) (sym goal_run)
+    subst (λ (y : Run). IsAt r key y now (record generator { word_pos = (generator.word_pos + 1) % 2 ^ 68 }) (entries + cond grew 1 0))
+    (sym goal_run)
     (record {
       phase = phase_step (picking run) st ∙ a.phase;
       seated = t.0;
@@ -106,22 +110,32 @@ picked_of r key run views generator entries number place own choice now grew l q
 
 pub picked : (r : Rules) (key : List ℕ) (run : Run) (views : List SeatView) (generator : ChaCha) (entries : ℕ) (number place own : ℕ) (choice : Choice) (now : List SeatView) (grew : Bool) → AreRules r key r.turns → IsAt r key run views generator entries → is_spent r run ≡ false → (length (all_steps views) ≡ 0 → ⊥) → number ≡ word_of key run.picks % length (all_steps views) → Finds views number place own → ((v : SeatView) (d : Step) → get_or views place v ≡ v → IsChosen v choice (get_or (seat_steps v) own d)) → ((v : SeatView) → get_or views place v ≡ v → Acts place choice v views now grew) → IsAt r key (next r run) now (record generator { word_pos = (generator.word_pos + 1) % 2 ^ 68 }) (entries + cond grew 1 0)
 picked r key run views generator entries number place own choice now grew u a s some n f x h =
-    subst (λ (y : Run). IsAt r key y now (record generator { word_pos = (generator.word_pos + 1) % 2 ^ 68 }) (entries + cond grew 1 0)) (sym (next_at r run a.phase s)) (go (steps r run) refl)
+    subst (λ (y : Run). IsAt r key y now (record generator { word_pos = (generator.word_pos + 1) % 2 ^ 68 }) (entries + cond grew 1 0))
+    (sym (next_at r run a.phase s)) (go (steps r run) refl)
   where
     e : all_steps views ≡ steps r run
     e = ap all_steps a.seated ∙ steps_all run r.makers
 
-    go : (l : List Step) → steps r run ≡ l → IsAt r key (pick_from r run l) now (record generator { word_pos = (generator.word_pos + 1) % 2 ^ 68 }) (entries + cond grew 1 0)
+    go : (l : List Step) → steps r run ≡ l
+        → IsAt r key (pick_from r run l) now (record generator { word_pos = (generator.word_pos + 1) % 2 ^ 68 }) (entries + cond grew 1 0)
     go [] q = absurd (some (ap length (ap all_steps a.seated ∙ steps_all run r.makers ∙ q)))
     go (y ∷ rest) q =
         let m : number ≡ r.word run.picks % length (y ∷ rest) =
-        n ∙ ap (λ k. k % length (all_steps views)) (sym (u.word_so run.picks)) ∙ ap (λ (k : List Step). r.word run.picks % length k) (ap all_steps a.seated ∙ steps_all run r.makers ∙ q) in
+        n ∙ ap (λ k. k % length (all_steps views)) (sym (u.word_so run.picks))
+        ∙ ap (λ (k : List Step). r.word run.picks % length k) (ap all_steps a.seated ∙ steps_all run r.makers ∙ q) in
         picked_of r key run views generator entries number place own choice now grew (y ∷ rest) q y rest refl u a m f x h
 
-pub picked_told : (r : Rules) (key : List ℕ) (run : Run) (views : List SeatView) (g h : ChaCha) (entries word : ℕ) (count number place own : ℕ) (choice : Choice) (now : List SeatView) (grew : Bool) → AreRules r key r.turns → IsAt r key run views g entries → is_spent r run ≡ false → count ≡ length (all_steps views) → (count ≡ 0 → ⊥) → (word, h) ≡ next_word 4 g → number ≡ word % count → Finds views number place own → ((v : SeatView) (d : Step) → get_or views place v ≡ v → IsChosen v choice (get_or (seat_steps v) own d)) → ((v : SeatView) → get_or views place v ≡ v → Acts place choice v views now grew) → IsAt r key (next r run) now h (entries + cond grew 1 0)
+pub picked_told : (r : Rules) (key : List ℕ) (run : Run) (views : List SeatView) (g h : ChaCha) (entries word : ℕ) (count number place own : ℕ) (choice : Choice) (now : List SeatView) (grew : Bool)
+    → AreRules r key r.turns → IsAt r key run views g entries → is_spent r run ≡ false → count ≡ length (all_steps views) → (count ≡ 0 → ⊥)
+    → (word, h) ≡ next_word 4 g → number ≡ word % count → Finds views number place own
+    → ((v : SeatView) (d : Step) → get_or views place v ≡ v → IsChosen v choice (get_or (seat_steps v) own d))
+    → ((v : SeatView) → get_or views place v ≡ v → Acts place choice v views now grew)
+    → IsAt r key (next r run) now h (entries + cond grew 1 0)
 picked_told r key run views g h entries word count number place own choice now grew u a s k some w n f x acts =
-    let the_word : word ≡ word_of key run.picks = ap (λ (p : ℕ × ChaCha). p.0) w ∙ ap (λ (q : ChaCha). word_at 4 q.key q.stream q.word_pos) a.placed in
+    let the_word : word ≡ word_of key run.picks = ap (λ (p : ℕ × ChaCha). p.0) w
+    ∙ ap (λ (q : ChaCha). word_at 4 q.key q.stream q.word_pos) a.placed in
     let after : h ≡ record g { word_pos = (g.word_pos + 1) % 2 ^ 68 } = ap (λ (p : ℕ × ChaCha). p.1) w in
-    let m : number ≡ word_of key run.picks % length (all_steps views) = n ∙ ap (λ j. j % count) the_word ∙ ap (λ j. word_of key run.picks % j) k in
+    let m : number ≡ word_of key run.picks % length (all_steps views) = n ∙ ap (λ j. j % count) the_word
+    ∙ ap (λ j. word_of key run.picks % j) k in
     subst (λ (q : ChaCha). IsAt r key (next r run) now q (entries + cond grew 1 0)) (sym after)
     (picked r key run views g entries number place own choice now grew u a s (λ z. some (k ∙ z)) m f x acts)

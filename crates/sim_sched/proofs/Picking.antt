@@ -22,7 +22,8 @@ behind a b k d h =
     let e : k ≡ length a + (k - length a) = omega arith in
     ap (λ j. get_or (a ++ b) j d) e ∙ behind_by a b (k - length a) d
 
-hearing_at : (s : SeatView) (i : ℕ) (l : List Pending) (rest : List Step) (k : ℕ) (d : Step) → k < length l → IsChosen s (Choice.Hear (i + k)) (get_or (hearings s.maker i l ++ rest) k d)
+hearing_at : (s : SeatView) (i : ℕ) (l : List Pending) (rest : List Step) (k : ℕ) (d : Step) → k < length l
+    → IsChosen s (Choice.Hear (i + k)) (get_or (hearings s.maker i l ++ rest) k d)
 hearing_at s i [] rest k d h = absurd (omega arith)
 hearing_at s i (c ∷ l) rest zero d h = (refl, sym (add-zero i))
 hearing_at s i (c ∷ l) rest (suc k) d h =
@@ -38,7 +39,9 @@ chosen_copy s k d h =
 abbrev event : SeatView → Bool → Mover → List Step
 event s b mover = cond b (Step.Give s.maker mover ∷ []) []
 
-events_at : (s : SeatView) (b e x : Bool) (n : ℕ) (d : Step) → n < length (event s b Mover.Batch ++ (event s e Mover.Emit ++ event s x Mover.Execute)) → IsChosen s (choice_after b e n) (get_or (event s b Mover.Batch ++ (event s e Mover.Emit ++ event s x Mover.Execute)) n d)
+events_at : (s : SeatView) (b e x : Bool) (n : ℕ) (d : Step)
+    → n < length (event s b Mover.Batch ++ (event s e Mover.Emit ++ event s x Mover.Execute))
+    → IsChosen s (choice_after b e n) (get_or (event s b Mover.Batch ++ (event s e Mover.Emit ++ event s x Mover.Execute)) n d)
 events_at s true e x zero d h = (refl, refl)
 events_at s true true x (suc zero) d h = (refl, refl)
 events_at s true true true (suc (suc zero)) d h = (refl, refl)
@@ -55,18 +58,23 @@ events_at s false false true zero d h = (refl, refl)
 events_at s false false true (suc n) d h = absurd (omega arith)
 events_at s false false false n d h = absurd (omega arith)
 
-pub chosen_event : (s : SeatView) (k : ℕ) (d : Step) → length s.way ≤ k → k < length (seat_steps s) → IsChosen s (choice_after (moves s.maker s.journal Mover.Batch) (moves s.maker s.journal Mover.Emit) (k - length s.way)) (get_or (seat_steps s) k d)
+pub chosen_event : (s : SeatView) (k : ℕ) (d : Step) → length s.way ≤ k → k < length (seat_steps s)
+    → IsChosen s (choice_after (moves s.maker s.journal Mover.Batch) (moves s.maker s.journal Mover.Emit) (k - length s.way))
+    (get_or (seat_steps s) k d)
 unfolding seat_steps
 chosen_event s k d h g =
     let tail : List Step = can s Mover.Batch ++ (can s Mover.Emit ++ can s Mover.Execute) in
     let n = hearings_long s.maker 0 s.way in
     let l : length (seat_steps s) ≡ length (hearings s.maker 0 s.way) + length tail = length-append (hearings s.maker 0 s.way) tail in
-    let e : get_or (seat_steps s) k d ≡ get_or tail (k - length (hearings s.maker 0 s.way)) d = behind (hearings s.maker 0 s.way) tail k d (omega arith) in
+    let e : get_or (seat_steps s) k d
+    ≡ get_or tail (k - length (hearings s.maker 0 s.way)) d = behind (hearings s.maker 0 s.way) tail k d (omega arith) in
     let f : k - length (hearings s.maker 0 s.way) ≡ k - length s.way = ap (λ j. k - j) n in
     let short : k - length s.way < length tail = omega arith in
-    subst (λ (x : Step). IsChosen s (choice_after (moves s.maker s.journal Mover.Batch) (moves s.maker s.journal Mover.Emit) (k - length s.way)) x)
+    subst (λ (x : Step). IsChosen s
+    (choice_after (moves s.maker s.journal Mover.Batch) (moves s.maker s.journal Mover.Emit) (k - length s.way)) x)
     (sym (e ∙ ap (λ j. get_or tail j d) f))
-    (events_at s (moves s.maker s.journal Mover.Batch) (moves s.maker s.journal Mover.Emit) (moves s.maker s.journal Mover.Execute) (k - length s.way) d short)
+    (events_at s (moves s.maker s.journal Mover.Batch) (moves s.maker s.journal Mover.Emit) (moves s.maker s.journal Mover.Execute)
+    (k - length s.way) d short)
 
 behind_possible : (s : SeatView) (e : Bool) (k : ℕ) → IsPossible s (choice_behind_is e k)
 behind_possible s true zero = tt
@@ -80,12 +88,14 @@ event_possible s false e k = behind_possible s e k
 
 -- ---- over all seats
 
-pub open_at : {X : Type 0} (f : X → SeatView) (xs : List X) (i : ℕ) (d : X) → i < length xs → AllOpen (map f xs) → (f (get_or xs i d)).shut ≡ false
+pub open_at : {X : Type 0} (f : X → SeatView) (xs : List X) (i : ℕ) (d : X) → i < length xs → AllOpen (map f xs)
+    → (f (get_or xs i d)).shut ≡ false
 open_at f [] i d h a = absurd (omega arith)
 open_at f (x ∷ xs) zero d h a = a.0
 open_at f (x ∷ xs) (suc i) d h a = open_at f xs i d (omega arith) a.1
 
-pub counted_more : {X : Type 0} (f : X → SeatView) (xs : List X) (i : ℕ) (d : X) → i < length xs → length (all_steps (map f (take (suc i) xs))) ≡ length (all_steps (map f (take i xs))) + length (seat_steps (f (get_or xs i d)))
+pub counted_more : {X : Type 0} (f : X → SeatView) (xs : List X) (i : ℕ) (d : X) → i < length xs
+    → length (all_steps (map f (take (suc i) xs))) ≡ length (all_steps (map f (take i xs))) + length (seat_steps (f (get_or xs i d)))
 counted_more f [] i d h = absurd (omega arith)
 counted_more f (x ∷ xs) zero d h =
     let a = length-append (seat_steps (f x)) [] in
@@ -115,13 +125,17 @@ pub record Seeks {X : Type 0} (f : X → SeatView) (xs : List X) (number place l
   pub ahead : left < length (all_steps (map f (drop place xs)))
   pub same : (s : Step) → get_or (all_steps (map f xs)) number s ≡ get_or (all_steps (map f (drop place xs))) left s
 
-pub seeks_first : {X : Type 0} (f : X → SeatView) (xs : List X) (number : ℕ) → number < length (all_steps (map f xs)) → Seeks f xs number 0 number
+pub seeks_first : {X : Type 0} (f : X → SeatView) (xs : List X) (number : ℕ) → number < length (all_steps (map f xs))
+    → Seeks f xs number 0 number
 seeks_first f xs number h = record { ahead = h; same = λ s. refl }
 
-here_is : {X : Type 0} (f : X → SeatView) (xs : List X) (i : ℕ) (d : X) → i < length xs → all_steps (map f (drop i xs)) ≡ seat_steps (f (get_or xs i d)) ++ all_steps (map f (drop (suc i) xs))
+here_is : {X : Type 0} (f : X → SeatView) (xs : List X) (i : ℕ) (d : X) → i < length xs
+    → all_steps (map f (drop i xs)) ≡ seat_steps (f (get_or xs i d)) ++ all_steps (map f (drop (suc i) xs))
 here_is f xs i d h = ap (λ l. all_steps (map f l)) (drop_at xs i d h)
 
-pub seeks_next : {X : Type 0} (f : X → SeatView) (xs : List X) (number place left : ℕ) (d : X) → place < length xs → length (seat_steps (f (get_or xs place d))) ≤ left → Seeks f xs number place left → Seeks f xs number (suc place) (left - length (seat_steps (f (get_or xs place d))))
+pub seeks_next : {X : Type 0} (f : X → SeatView) (xs : List X) (number place left : ℕ) (d : X) → place < length xs
+    → length (seat_steps (f (get_or xs place d))) ≤ left → Seeks f xs number place left
+    → Seeks f xs number (suc place) (left - length (seat_steps (f (get_or xs place d))))
 seeks_next f xs number place left d h g s =
     let e = here_is f xs place d h in
     let n = ap length e in
@@ -129,21 +143,25 @@ seeks_next f xs number place left d h g s =
     let k = s.ahead in
     record {
       ahead = omega arith;
-      same = λ x. s.same x ∙ ap (λ (l : List Step). get_or l left x) e ∙ behind (seat_steps (f (get_or xs place d))) (all_steps (map f (drop (suc place) xs))) left x g;
+      same = λ x. s.same x ∙ ap (λ (l : List Step). get_or l left x) e
+          ∙ behind (seat_steps (f (get_or xs place d))) (all_steps (map f (drop (suc place) xs))) left x g;
     }
 
-pub seeks_found : {X : Type 0} (f : X → SeatView) (xs : List X) (number place left : ℕ) (d : X) → place < length xs → left < length (seat_steps (f (get_or xs place d))) → Seeks f xs number place left → Finds (map f xs) number place left
+pub seeks_found : {X : Type 0} (f : X → SeatView) (xs : List X) (number place left : ℕ) (d : X) → place < length xs
+    → left < length (seat_steps (f (get_or xs place d))) → Seeks f xs number place left → Finds (map f xs) number place left
 seeks_found f xs number place left d h g s =
     let e = here_is f xs place d h in
     record {
       within = let n = long_map f xs in omega arith;
       own_within = λ v. subst (λ (y : SeatView). left < length (seat_steps y)) (sym (at_map f xs place d v h)) g;
       same = λ v x.
-          s.same x ∙ ap (λ (l : List Step). get_or l left x) e ∙ in_front (seat_steps (f (get_or xs place d))) (all_steps (map f (drop (suc place) xs))) left x g
+          s.same x ∙ ap (λ (l : List Step). get_or l left x) e
+          ∙ in_front (seat_steps (f (get_or xs place d))) (all_steps (map f (drop (suc place) xs))) left x g
           ∙ ap (λ (y : SeatView). get_or (seat_steps y) left x) (sym (at_map f xs place d v h));
     }
 
-pub seeks_ends : {X : Type 0} (f : X → SeatView) (xs : List X) (number place left : ℕ) → length xs ≤ place → Seeks f xs number place left → ⊥
+pub seeks_ends : {X : Type 0} (f : X → SeatView) (xs : List X) (number place left : ℕ) → length xs ≤ place → Seeks f xs number place left
+    → ⊥
 seeks_ends f xs number place left h s =
     let e = ap (λ l. length (all_steps (map f l))) (drop_all xs place h) in
     let k = s.ahead in
@@ -155,9 +173,12 @@ seeks_ends f xs number place left h s =
     drop_all (y ∷ ys) zero g = absurd (omega arith)
     drop_all (y ∷ ys) (suc i) g = drop_all ys i (omega arith)
 
-pub counted_step : {X : Type 0} (f : X → SeatView) (xs : List X) (i : ℕ) (d : X) (count own more : ℕ) → i < length xs → d ≡ get_or xs i d → count ≡ length (all_steps (map f (take i xs))) → own ≡ length (seat_steps (f d)) → more ≡ count + own → more ≡ length (all_steps (map f (take (i + 1) xs)))
+pub counted_step : {X : Type 0} (f : X → SeatView) (xs : List X) (i : ℕ) (d : X) (count own more : ℕ) → i < length xs → d ≡ get_or xs i d
+    → count ≡ length (all_steps (map f (take i xs))) → own ≡ length (seat_steps (f d)) → more ≡ count + own
+    → more ≡ length (all_steps (map f (take (i + 1) xs)))
 counted_step f xs i d count own more h e c o m =
     let r = counted_more f xs i d h in
     let q : length (seat_steps (f d)) ≡ length (seat_steps (f (get_or xs i d))) = ap (λ x. length (seat_steps (f x))) e in
-    let t : length (all_steps (map f (take (i + 1) xs))) ≡ length (all_steps (map f (take (suc i) xs))) = ap (λ k. length (all_steps (map f (take k xs)))) (add-one i) in
+    let t : length (all_steps (map f (take (i + 1) xs)))
+    ≡ length (all_steps (map f (take (suc i) xs))) = ap (λ k. length (all_steps (map f (take k xs)))) (add-one i) in
     omega arith

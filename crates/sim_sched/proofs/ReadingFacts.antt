@@ -30,7 +30,8 @@ of_bytes members ring m load b w =
     ∙ ap (λ (x : Roster). judged_as_read x m.ring (reading_of load)) w.0
     ∙ ap (λ (x : Ring). judged_as_read members x (reading_of load)) w.1
 
-pub read_well : (members : Roster) (ring : Ring) (load : List ℕ) (v : Admitted) → are_bytes load ≡ true → v.members ≡ members → v.ring ≡ ring
+pub read_well : (members : Roster) (ring : Ring) (load : List ℕ) (v : Admitted) → are_bytes load ≡ true → v.members ≡ members
+    → v.ring ≡ ring
     → judged_as_read members ring (reading_of load) ≡ Ok v.message → IsRead members ring load (Ok v)
 read_well members ring load v b p q j = (p, q, λ m w. of_bytes members ring m load b w ∙ j)
 

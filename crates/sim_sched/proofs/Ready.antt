@@ -36,17 +36,20 @@ open_there [] k v h e a = absurd (omega arith)
 open_there (x ∷ rest) zero v h e a = ap (λ (y : SeatView). y.shut) (sym e) ∙ a.0
 open_there (x ∷ rest) (suc k) v h e a = open_there rest k v (omega arith) e a.1
 
-made_set : (members : Roster) (ring : Ring) (views : List SeatView) (k : ℕ) (v : SeatView) → IsMadeWith members ring v.maker → AllMadeWith members ring views → AllMadeWith members ring (set views k v)
+made_set : (members : Roster) (ring : Ring) (views : List SeatView) (k : ℕ) (v : SeatView) → IsMadeWith members ring v.maker
+    → AllMadeWith members ring views → AllMadeWith members ring (set views k v)
 made_set members ring [] zero v e a = tt
 made_set members ring [] (suc k) v e a = tt
 made_set members ring (x ∷ rest) zero v e a = (e, a.1)
 made_set members ring (x ∷ rest) (suc k) v e a = (a.0, made_set members ring rest k v e a.1)
 
-made_received : (members : Roster) (ring : Ring) (views : List SeatView) (copies : List (ReplicaId × Pending)) → AllMadeWith members ring views → AllMadeWith members ring (map (receive copies) views)
+made_received : (members : Roster) (ring : Ring) (views : List SeatView) (copies : List (ReplicaId × Pending))
+    → AllMadeWith members ring views → AllMadeWith members ring (map (receive copies) views)
 made_received members ring [] copies a = tt
 made_received members ring (x ∷ rest) copies a = (a.0, made_received members ring rest copies a.1)
 
-pub made_there : (members : Roster) (ring : Ring) (views : List SeatView) (k : ℕ) (v : SeatView) → k < length views → get_or views k v ≡ v → AllMadeWith members ring views → IsMadeWith members ring v.maker
+pub made_there : (members : Roster) (ring : Ring) (views : List SeatView) (k : ℕ) (v : SeatView) → k < length views → get_or views k v ≡ v
+    → AllMadeWith members ring views → IsMadeWith members ring v.maker
 made_there members ring [] k v h e a = absurd (omega arith)
 made_there members ring (x ∷ rest) zero v h e a = subst (λ (y : SeatView). IsMadeWith members ring y.maker) e a.0
 made_there members ring (x ∷ rest) (suc k) v h e a = made_there members ring rest k v (omega arith) e a.1
@@ -63,7 +66,9 @@ heard_keeps : (k : ℕ) (c : Pending) (v : SeatView) → ((seat_heard k c v).shu
 unfolding seat_heard
 heard_keeps k c v = go (reads v.maker c.load)
   where
-    go : (q : Result Message Refusal) → ((heard_by c (record v { way = remove v.way k }) q).shut ≡ v.shut) × ((heard_by c (record v { way = remove v.way k }) q).maker ≡ v.maker)
+    go : (q : Result Message Refusal)
+        → ((heard_by c (record v { way = remove v.way k }) q).shut ≡ v.shut) × ((heard_by c (record v { way = remove v.way k }) q).maker
+        ≡ v.maker)
     go (Ok x) = (refl, refl)
     go (Err e) = (refl, refl)
 
@@ -72,25 +77,39 @@ set_any [] k a b h = absurd (omega arith)
 set_any (x ∷ rest) zero a b h = refl
 set_any (x ∷ rest) (suc k) a b h = set_any rest k a b (omega arith)
 
-ready_set : (members : Roster) (ring : Ring) (ids : List ReplicaId) (views : List SeatView) (k : ℕ) (v w : SeatView) → k < length views → get_or views k v ≡ v → w.shut ≡ v.shut → w.maker ≡ v.maker → IsReady members ring ids views → IsReady members ring ids (set views k w)
+ready_set : (members : Roster) (ring : Ring) (ids : List ReplicaId) (views : List SeatView) (k : ℕ) (v w : SeatView) → k < length views
+    → get_or views k v ≡ v → w.shut ≡ v.shut → w.maker ≡ v.maker → IsReady members ring ids views → IsReady members ring ids (set views k w)
 ready_set members ring ids views k v w h e s m a =
     let q : get_or views k w ≡ v = set_any views k w v h ∙ e in
     record {
       named = a.named ∙ sym (ids_set views k w (ap (λ (x : Maker). x.id) m ∙ ap (λ (y : SeatView). y.maker.id) (sym q)));
       open_all = open_set views k w (s ∙ open_there views k v h e a.open_all) a.open_all;
-      made = made_set members ring views k w (subst (λ (x : Maker). IsMadeWith members ring x) (sym m) (made_there members ring views k v h e a.made)) a.made;
+      made = made_set members ring views k w
+          (subst (λ (x : Maker). IsMadeWith members ring x) (sym m) (made_there members ring views k v h e a.made)) a.made;
     }
 
-pub ready_received : (members : Roster) (ring : Ring) (ids : List ReplicaId) (views now : List SeatView) (copies : List (ReplicaId × Pending)) → now ≡ map (receive copies) views → IsReady members ring ids views → IsReady members ring ids now
+pub ready_received : (members : Roster) (ring : Ring) (ids : List ReplicaId) (views now : List SeatView) (copies : List (ReplicaId × Pending))
+    → now ≡ map (receive copies) views → IsReady members ring ids views → IsReady members ring ids now
 ready_received members ring ids views now copies e a =
-    subst (λ (l : List SeatView). IsReady members ring ids l) (sym e) (record { named = a.named ∙ sym (same_ids views copies); open_all = open_received views copies a.open_all; made = made_received members ring views copies a.made })
+    subst (λ (l : List SeatView). IsReady members ring ids l) (sym e)
+    (record {
+      named = a.named
+          ∙ sym (same_ids views copies);
+      open_all = open_received views copies a.open_all;
+      made = made_received members ring views
+          copies a.made;
+    })
 
-pub ready_given : (members : Roster) (ring : Ring) (ids : List ReplicaId) (views : List SeatView) (place : ℕ) (mover : Mover) (v : SeatView) → place < length views → get_or views place v ≡ v → IsReady members ring ids views → IsReady members ring ids (given_at place mover v views)
+pub ready_given : (members : Roster) (ring : Ring) (ids : List ReplicaId) (views : List SeatView) (place : ℕ) (mover : Mover) (v : SeatView)
+    → place < length views → get_or views place v ≡ v → IsReady members ring ids views
+    → IsReady members ring ids (given_at place mover v views)
 ready_given members ring ids views place mover v h e a =
     let s = ready_set members ring ids views place v (seat_given mover v) h e (given_shut mover v) (given_maker mover v) a in
     ready_received members ring ids _ _ _ refl s
 
-pub ready_acted : (members : Roster) (ring : Ring) (ids : List ReplicaId) (place : ℕ) (choice : Choice) (v : SeatView) (views now : List SeatView) (grew : Bool) → place < length views → get_or views place v ≡ v → IsPossible v choice → Acts place choice v views now grew → IsReady members ring ids views → IsReady members ring ids now
+pub ready_acted : (members : Roster) (ring : Ring) (ids : List ReplicaId) (place : ℕ) (choice : Choice) (v : SeatView) (views now : List SeatView) (grew : Bool)
+    → place < length views → get_or views place v ≡ v → IsPossible v choice → Acts place choice v views now grew
+    → IsReady members ring ids views → IsReady members ring ids now
 ready_acted members ring ids place (Choice.Hear k) v views now grew h e p x a =
     let c = some_at v.way k p in
     let d = x c.0 c.1 in

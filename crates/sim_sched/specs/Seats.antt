@@ -69,7 +69,8 @@ IsPossible s (Choice.Give mover) = Unit {0}
 pub record Finds (views : List SeatView) (number place own : ℕ) : Type 0 where
   pub within : place < length views
   pub own_within : (d : SeatView) → own < length (seat_steps (slice_index_or views place d))
-  pub same : (d : SeatView) (s : Step) → slice_index_or (all_steps views) number s ≡ slice_index_or (seat_steps (slice_index_or views place d)) own s
+  pub same : (d : SeatView) (s : Step)
+      → slice_index_or (all_steps views) number s ≡ slice_index_or (seat_steps (slice_index_or views place d)) own s
 
 -- ---- events at a seat
 

@@ -67,7 +67,8 @@ impl<P: Party> Seat<P> {
 
     /// Notes that a copy was refused: a parcel by its number; a request of a client isn't noted.
     fn note(&mut self, origin: Origin, number: u64, refusal: Refusal) -> Result<(), NoMemory>
-        ensures { IfOk result (λ done. seen P.made P.journal P.shut self.new ≡ with_turned origin number refusal (seen P.made P.journal P.shut self.old)) }
+        ensures { IfOk result (λ done. seen P.made P.journal P.shut self.new
+            ≡ with_turned origin number refusal (seen P.made P.journal P.shut self.old)) }
     {
         if let Origin::Replica { from, .. } = origin {
             self.refused.push(Turned {
@@ -84,7 +85,9 @@ impl<P: Party> Seat<P> {
         requires open { P.shut self.old.party ≡ false }
         requires there { place < length self.old.way.items }
         requires made { IsMadeWith reader.now.members.now reader.now.ring.now (P.made self.old.party) }
-        ensures { IfOk result (λ heard. (c : Pending) → slice_index_or self.old.way.items place c ≡ c → (seen P.made P.journal P.shut self.new ≡ seat_heard place c (seen P.made P.journal P.shut self.old)) × (heard ≡ is_read (journals.reads (P.made self.old.party) c.load))) }
+        ensures { IfOk result (λ heard. (c : Pending) → slice_index_or self.old.way.items place c ≡ c
+            → (seen P.made P.journal P.shut self.new ≡ seat_heard place c (seen P.made P.journal P.shut self.old))
+            × (heard ≡ is_read (journals.reads (P.made self.old.party) c.load))) }
     {
         let copy = self.way.remove(place);
         match reader.read(copy.load.as_slice())? {
@@ -102,7 +105,9 @@ impl<P: Party> Seat<P> {
     /// Gives an event. Whether an entry was made, and what was put.
     pub(crate) fn give(&mut self, alloc: Global, mover: Mover) -> Result<(bool, Parcels), NoMemory>
         requires { P.shut self.old.party ≡ false }
-        ensures { IfOk result (λ told. (seen P.made P.journal P.shut self.new ≡ seat_given mover (seen P.made P.journal P.shut self.old)) × (told.1 ≡ parcels_given mover (seen P.made P.journal P.shut self.old)) × (told.0 ≡ journals.moves (P.made self.old.party) (P.journal self.old.party) mover)) }
+        ensures { IfOk result (λ told. (seen P.made P.journal P.shut self.new ≡ seat_given mover (seen P.made P.journal P.shut self.old))
+            × (told.1 ≡ parcels_given mover (seen P.made P.journal P.shut self.old))
+            × (told.0 ≡ journals.moves (P.made self.old.party) (P.journal self.old.party) mover)) }
     {
         match self.party.act(act_of(mover)) {
             Told::Core(answer) => Ok((makes_entry(&answer), Rows::new(alloc))),

@@ -25,9 +25,11 @@ fn nudge_all<P: Party>(
     requires ready { IsReady reader.now.members.now reader.now.ring.now ids.now (map (seen P.made P.journal P.shut) seats.old) }
     requires apart { AreDistinct ids.now }
     requires within { before ≤ turns }
-    ensures ready { IfOk result (λ told. IsReady reader.now.members.now reader.now.ring.now ids.now (map (seen P.made P.journal P.shut) seats.new)) }
+    ensures ready { IfOk result (λ told. IsReady reader.now.members.now reader.now.ring.now ids.now
+        (map (seen P.made P.journal P.shut) seats.new)) }
     ensures within { IfOk result (λ told. told.entries ≤ turns) }
-    ensures nudged { IfOk result (λ told. Nudged (map (seen P.made P.journal P.shut) seats.old) before turns told (map (seen P.made P.journal P.shut) seats.new)) }
+    ensures nudged { IfOk result (λ told. Nudged (map (seen P.made P.journal P.shut) seats.old) before turns told
+        (map (seen P.made P.journal P.shut) seats.new)) }
 {
     let mut moved = false;
     let mut entries = before;
@@ -62,7 +64,8 @@ pub(crate) fn play<P: Party>(
     requires ready { IsReady reader.now.members.now reader.now.ring.now ids.now (map (seen P.made P.journal P.shut) seats.old) }
     requires apart { AreDistinct ids.now }
     ensures open { IfOk result (λ spent. AllOpen (map (seen P.made P.journal P.shut) seats.new)) }
-    ensures played { IfOk result (λ spent. Played turns (map (seen P.made P.journal P.shut) seats.old) generator.old spent (map (seen P.made P.journal P.shut) seats.new)) }
+    ensures played { IfOk result (λ spent. Played turns (map (seen P.made P.journal P.shut) seats.old) generator.old spent
+        (map (seen P.made P.journal P.shut) seats.new)) }
 {
     let mut entries: u64 = 0;
     for _event in 0..u64::MAX {

@@ -20,7 +20,8 @@ fn same(a: ReplicaId, b: ReplicaId) -> bool
 
 /// The place of an id.
 fn place_of(ids: &[ReplicaId], to: ReplicaId) -> Option<usize>
-    ensures { MatchOption result (IsNone to ids.now) (λ place. (place < length ids.now) × (is_same to (slice_index_or ids.now place to) ≡ true)) }
+    ensures { MatchOption result (IsNone to ids.now) (λ place. (place < length ids.now)
+        × (is_same to (slice_index_or ids.now place to) ≡ true)) }
 {
     for (place, id) in ids.iter().enumerate() {
         if same(to, *id) {
@@ -49,7 +50,8 @@ fn put_copy<P: Party>(
 ) -> Result<(), NoMemory>
     requires named { ids.now ≡ ids_of (map (seen P.made P.journal P.shut) seats.old) }
     requires apart { AreDistinct ids.now }
-    ensures { IfOk result (λ done. map (seen P.made P.journal P.shut) seats.new ≡ map (receive ((to, copy) ∷ [])) (map (seen P.made P.journal P.shut) seats.old)) }
+    ensures { IfOk result (λ done. map (seen P.made P.journal P.shut) seats.new
+        ≡ map (receive ((to, copy) ∷ [])) (map (seen P.made P.journal P.shut) seats.old)) }
 {
     match place_of(ids, to) {
         None => Ok(()),
@@ -66,7 +68,8 @@ pub(crate) fn deliver<P: Party>(
 ) -> Result<(), NoMemory>
     requires named { ids.now ≡ ids_of (map (seen P.made P.journal P.shut) seats.old) }
     requires apart { AreDistinct ids.now }
-    ensures { IfOk result (λ done. map (seen P.made P.journal P.shut) seats.new ≡ map (receive (map (copy_of from) parcels)) (map (seen P.made P.journal P.shut) seats.old)) }
+    ensures { IfOk result (λ done. map (seen P.made P.journal P.shut) seats.new
+        ≡ map (receive (map (copy_of from) parcels)) (map (seen P.made P.journal P.shut) seats.old)) }
 {
     for parcel in parcels.into_vec() {
         let copy = Pending {
@@ -90,7 +93,8 @@ pub(crate) fn deliver_requests<P: Party>(
 ) -> Result<(), NoMemory>
     requires named { ids.now ≡ ids_of (map (seen P.made P.journal P.shut) seats.old) }
     requires apart { AreDistinct ids.now }
-    ensures { IfOk result (λ done. map (seen P.made P.journal P.shut) seats.new ≡ map (receive requests.items) (map (seen P.made P.journal P.shut) seats.old)) }
+    ensures { IfOk result (λ done. map (seen P.made P.journal P.shut) seats.new
+        ≡ map (receive requests.items) (map (seen P.made P.journal P.shut) seats.old)) }
 {
     for (to, copy) in requests {
         put_copy(seats, ids, to, copy)?;

@@ -31,7 +31,8 @@ fn seed_of(seed: u64) -> [u8; 32]
 
 /// A seat for each party.
 fn seat_all<P: Party>(alloc: Global, parties: Vec<P>) -> Result<Vec<Seat<P>>, NoMemory>
-    ensures { IfOk result (λ seats. map (seen P.made P.journal P.shut) seats.items ≡ map (empty_seat P.made P.journal P.shut) parties.items) }
+    ensures { IfOk result (λ seats. map (seen P.made P.journal P.shut) seats.items
+        ≡ map (empty_seat P.made P.journal P.shut) parties.items) }
 {
     let mut seats = Vec::new(alloc);
     for party in parties {
@@ -46,7 +47,8 @@ fn seat_all<P: Party>(alloc: Global, parties: Vec<P>) -> Result<Vec<Seat<P>>, No
 
 /// The trace of each seat, where all are of open parties.
 fn collect<P: Party>(alloc: Global, seats: Vec<Seat<P>>) -> Result<Traces, NoMemory>
-    ensures { IfOk result (λ traces. AllOpen (map (seen P.made P.journal P.shut) seats.items) → traces ≡ map seat_trace (map (seen P.made P.journal P.shut) seats.items)) }
+    ensures { IfOk result (λ traces. AllOpen (map (seen P.made P.journal P.shut) seats.items)
+        → traces ≡ map seat_trace (map (seen P.made P.journal P.shut) seats.items)) }
 {
     let mut traces = Rows::new(alloc);
     for seat in seats {
@@ -83,7 +85,8 @@ fn run_seats<P: Party>(
     requires ready { IsReady reader.now.members.now reader.now.ring.now ids.now (map (seen P.made P.journal P.shut) seats.old) }
     requires apart { AreDistinct ids.now }
     ensures open { IfOk result (λ spent. AllOpen (map (seen P.made P.journal P.shut) seats.new)) }
-    ensures played { IfOk result (λ spent. Played turns (map (receive requests.items) (map (seen P.made P.journal P.shut) seats.old)) (of_seed (seed_bytes seed)) spent (map (seen P.made P.journal P.shut) seats.new)) }
+    ensures played { IfOk result (λ spent. Played turns (map (receive requests.items)
+        (map (seen P.made P.journal P.shut) seats.old)) (of_seed (seed_bytes seed)) spent (map (seen P.made P.journal P.shut) seats.new)) }
 {
     deliver_requests(seats, ids, requests)?;
     let mut generator = ChaCha8Rng::from_seed(seed_of(seed));

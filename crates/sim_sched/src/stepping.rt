@@ -28,7 +28,9 @@ pub(crate) fn give_at<P: Party>(
     requires apart { AreDistinct ids.now }
     requires open { AllOpen (map (seen P.made P.journal P.shut) seats.old) }
     requires there { place < length seats.old }
-    ensures { IfOk result (λ grew. (v : SeatView) → slice_index_or (map (seen P.made P.journal P.shut) seats.old) place v ≡ v → (map (seen P.made P.journal P.shut) seats.new ≡ given_at place mover v (map (seen P.made P.journal P.shut) seats.old)) × (grew ≡ moves v.maker v.journal mover)) }
+    ensures { IfOk result (λ grew. (v : SeatView) → slice_index_or (map (seen P.made P.journal P.shut) seats.old) place v ≡ v
+        → (map (seen P.made P.journal P.shut) seats.new ≡ given_at place mover v (map (seen P.made P.journal P.shut) seats.old))
+        × (grew ≡ moves v.maker v.journal mover)) }
 {
     let (grew, parcels) = seats[place].give(alloc, mover)?;
     let from = ids[place];
@@ -47,7 +49,9 @@ pub(crate) fn hear_at<P: Party>(
     requires there { place < length seats.old }
     requires made { AllMadeWith reader.now.members.now reader.now.ring.now (map (seen P.made P.journal P.shut) seats.old) }
     requires waits { (v : SeatView) → slice_index_or (map (seen P.made P.journal P.shut) seats.old) place v ≡ v → copy < length v.way }
-    ensures { IfOk result (λ grew. (v : SeatView) → slice_index_or (map (seen P.made P.journal P.shut) seats.old) place v ≡ v → Acts place (Choice.Hear copy) v (map (seen P.made P.journal P.shut) seats.old) (map (seen P.made P.journal P.shut) seats.new) grew) }
+    ensures { IfOk result (λ grew. (v : SeatView) → slice_index_or (map (seen P.made P.journal P.shut) seats.old) place v ≡ v
+        → Acts place (Choice.Hear copy) v (map (seen P.made P.journal P.shut) seats.old)
+        (map (seen P.made P.journal P.shut) seats.new) grew) }
 {
     seats[place].hear(copy, reader)
 }
@@ -66,7 +70,8 @@ pub(crate) fn act_at<P: Party>(
     requires there { place < length seats.old }
     requires made { AllMadeWith reader.now.members.now reader.now.ring.now (map (seen P.made P.journal P.shut) seats.old) }
     requires waits { (v : SeatView) → slice_index_or (map (seen P.made P.journal P.shut) seats.old) place v ≡ v → IsPossible v choice }
-    ensures { IfOk result (λ grew. (v : SeatView) → slice_index_or (map (seen P.made P.journal P.shut) seats.old) place v ≡ v → Acts place choice v (map (seen P.made P.journal P.shut) seats.old) (map (seen P.made P.journal P.shut) seats.new) grew) }
+    ensures { IfOk result (λ grew. (v : SeatView) → slice_index_or (map (seen P.made P.journal P.shut) seats.old) place v ≡ v
+        → Acts place choice v (map (seen P.made P.journal P.shut) seats.old) (map (seen P.made P.journal P.shut) seats.new) grew) }
 {
     match choice {
         Choice::Hear(copy) => hear_at(seats, place, copy, reader),
@@ -83,8 +88,10 @@ pub(crate) fn pick<P: Party>(
 ) -> Result<Option<bool>, NoMemory>
     requires ready { IsReady reader.now.members.now reader.now.ring.now ids.now (map (seen P.made P.journal P.shut) seats.old) }
     requires apart { AreDistinct ids.now }
-    ensures ready { IfOk result (λ told. IsReady reader.now.members.now reader.now.ring.now ids.now (map (seen P.made P.journal P.shut) seats.new)) }
-    ensures picked { IfOk result (λ told. Picked (map (seen P.made P.journal P.shut) seats.old) generator.old told (map (seen P.made P.journal P.shut) seats.new) generator.new) }
+    ensures ready { IfOk result (λ told. IsReady reader.now.members.now reader.now.ring.now ids.now
+        (map (seen P.made P.journal P.shut) seats.new)) }
+    ensures picked { IfOk result (λ told. Picked (map (seen P.made P.journal P.shut) seats.old) generator.old told
+        (map (seen P.made P.journal P.shut) seats.new) generator.new) }
 {
     let count = count_all(seats)?;
     if count == 0 {

@@ -11,7 +11,8 @@ returns-then-entries-turns-clause-nudged g c =
     let f = seen g.P.Party.made g.P.Party.journal g.P.Party.shut in
     let n : length (map f c.loop-place.seats) ≡ length c.loop-place.seats = long_map f c.loop-place.seats in
     let same = c.loop-place.auto.seats in
-    nudge_spent r key (map f c.loop-place.seats) gen c.loop-place.entries c.args.turns c.loop-place.place c.loop-place.moved u (omega arith) (omega arith)
+    nudge_spent r key (map f c.loop-place.seats) gen c.loop-place.entries c.args.turns c.loop-place.place c.loop-place.moved u (omega arith)
+    (omega arith)
     (c.loop-place.invariant.nudges r key gen u i)
 
 pub loop-place-preserved : goal.loop-place-preserved
@@ -22,10 +23,16 @@ loop-place-preserved g c =
     let h : c.loop-place.place < length (map f c.loop-place.seats) = omega arith in
     let l : c.loop-place.entries < c.args.turns = omega arith in
     elim c.if-branch.branch [
-      | then-branch w ↦ nudges_moved c.args.reader.now.members.now c.args.reader.now.ring.now c.args.ids.now (map f c.args.seats.now) (map f c.loop-place.seats) (map f c.give_at.new.seats) c.args.before c.args.turns c.loop-place.entries c.loop-place.place c.if-branch.entries
-          c.loop-place.moved c.if-branch.moved c.in_ok-give_at.field-0 w.if-branch.true w.moved-is w.entries-is l h c.in_ok-give_at.ensures c.loop-place.invariant
-      | else-branch w ↦ nudges_still c.args.reader.now.members.now c.args.reader.now.ring.now c.args.ids.now (map f c.args.seats.now) (map f c.loop-place.seats) (map f c.give_at.new.seats) c.args.before c.args.turns c.loop-place.entries c.loop-place.place c.if-branch.entries
-          c.loop-place.moved c.if-branch.moved c.in_ok-give_at.field-0 w.if-branch.false w.moved-is w.entries-is l h c.in_ok-give_at.ensures c.loop-place.invariant
+      | then-branch w ↦ nudges_moved c.args.reader.now.members.now c.args.reader.now.ring.now c.args.ids.now (map f c.args.seats.now)
+          (map f c.loop-place.seats) (map f c.give_at.new.seats) c.args.before c.args.turns c.loop-place.entries c.loop-place.place
+          c.if-branch.entries
+          c.loop-place.moved c.if-branch.moved c.in_ok-give_at.field-0 w.if-branch.true w.moved-is w.entries-is l h c.in_ok-give_at.ensures
+          c.loop-place.invariant
+      | else-branch w ↦ nudges_still c.args.reader.now.members.now c.args.reader.now.ring.now c.args.ids.now (map f c.args.seats.now)
+          (map f c.loop-place.seats) (map f c.give_at.new.seats) c.args.before c.args.turns c.loop-place.entries c.loop-place.place
+          c.if-branch.entries
+          c.loop-place.moved c.if-branch.moved c.in_ok-give_at.field-0 w.if-branch.false w.moved-is w.entries-is l h c.in_ok-give_at.ensures
+          c.loop-place.invariant
     ]
 
 pub returns-clause-nudged : goal.returns-clause-nudged

@@ -5,5 +5,6 @@ use Rattle.sim_sched.proofs.playing.nudge_all.Given as goal
 
 abbrev pub invariant-loop-place : goal.invariant-loop-place
 invariant-loop-place g l =
-    NudgesSo l.reader.members.now l.reader.ring.now l.ids (map (seen g.P.Party.made g.P.Party.journal g.P.Party.shut) l.initial.seats) (map (seen g.P.Party.made g.P.Party.journal g.P.Party.shut) l.seats)
+    NudgesSo l.reader.members.now l.reader.ring.now l.ids (map (seen g.P.Party.made g.P.Party.journal g.P.Party.shut) l.initial.seats)
+    (map (seen g.P.Party.made g.P.Party.journal g.P.Party.shut) l.seats)
     l.before l.turns l.entries l.place l.moved

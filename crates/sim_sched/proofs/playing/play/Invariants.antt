@@ -5,5 +5,6 @@ use Rattle.sim_sched.proofs.playing.play.Given as goal
 
 abbrev pub invariant-loop-event : goal.invariant-loop-event
 invariant-loop-event g l =
-    PlaysSo l.reader.members.now l.reader.ring.now l.ids l.turns (map (seen g.P.Party.made g.P.Party.journal g.P.Party.shut) l.initial.seats) l.initial.generator
+    PlaysSo l.reader.members.now l.reader.ring.now l.ids l.turns
+    (map (seen g.P.Party.made g.P.Party.journal g.P.Party.shut) l.initial.seats) l.initial.generator
     (map (seen g.P.Party.made g.P.Party.journal g.P.Party.shut) l.seats) l.generator l.entries

@@ -10,7 +10,8 @@ use Rattle.sim_sched.proofs.simulating.simulate.Goals as goal
 pub run_seats-requires-clause-ready : goal.run_seats-requires-clause-ready
 run_seats-requires-clause-ready g c =
     let f = seen g.P.Party.made g.P.Party.journal g.P.Party.shut in
-    ready_first g.P.Party.made g.P.Party.journal g.P.Party.shut _ _ c.args.parties.items c.args.ids.now (map f c.deref_mut.result.now) c.requires.named c.requires.fresh c.requires.made
+    ready_first g.P.Party.made g.P.Party.journal g.P.Party.shut _ _ c.args.parties.items c.args.ids.now (map f c.deref_mut.result.now)
+    c.requires.named c.requires.fresh c.requires.made
     (ap (map f) c.deref_mut.ensures.value ∙ c.in_ok-seats.ensures)
 
 pub returns : goal.returns
@@ -29,7 +30,8 @@ returns g c =
     let opened = subst (λ l. AllOpen (map f l)) (sym back) c.in_ok-spent.ensures.open in
     let whole : IsSchedule r told c.in_ok-spent.spent =
     schedule made journal shut c.args.script c.args.parties.items c.args.ids.now c.args.requests.items c.from-turns.result
-    (map (receive c.args.requests.items) (map f c.deref_mut.result.now)) (map f c.run_seats.new.seats) _ c.in_ok-spent.spent c.in_ok-traces.traces
+    (map (receive c.args.requests.items) (map f c.deref_mut.result.now)) (map f c.run_seats.new.seats) _ c.in_ok-spent.spent
+    c.in_ok-traces.traces
     c.requires.named c.requires.apart c.requires.fresh c.from-turns.ensures
     (ap (λ l. map (receive c.args.requests.items) (map f l)) v ∙ ap (map (receive c.args.requests.items)) c.in_ok-seats.ensures)
     refl c.in_ok-spent.ensures.played

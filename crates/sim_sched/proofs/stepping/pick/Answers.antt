@@ -24,7 +24,8 @@ choice-choice-requires-clause-there g c =
     let n : length (map f c.args.seats.now) ≡ length c.args.seats.now = long_map f c.args.seats.now in
     let w = c.find-place.ensures.within in
     let v = f (get_or c.args.seats.now c.find-place.result.0 c.index-seats-place.result) in
-    subst (λ (x : SeatView). c.find-place.result.1 < length (seat_steps x)) (at_mapped f c.args.seats.now c.find-place.result.0 c.index-seats-place.result v (omega arith))
+    subst (λ (x : SeatView). c.find-place.result.1 < length (seat_steps x))
+    (at_mapped f c.args.seats.now c.find-place.result.0 c.index-seats-place.result v (omega arith))
     (c.find-place.ensures.own_within v)
 
 pub returns-clause-ready : goal.returns-clause-ready
@@ -34,7 +35,8 @@ returns-clause-ready g c =
     let w = c.find-place.ensures.within in
     let v = f (get_or c.args.seats.now c.find-place.result.0 c.index-seats-place.result) in
     let e = at_mapped f c.args.seats.now c.find-place.result.0 c.index-seats-place.result v (omega arith) in
-    ready_acted _ _ _ c.find-place.result.0 c.choice-choice.result v _ _ _ w e c.choice-choice.ensures.possible (c.in_ok-grew.ensures v e) c.requires.ready
+    ready_acted _ _ _ c.find-place.result.0 c.choice-choice.result v _ _ _ w e c.choice-choice.ensures.possible (c.in_ok-grew.ensures v e)
+    c.requires.ready
 
 pub returns-clause-picked : goal.returns-clause-picked
 returns-clause-picked g c =
@@ -42,7 +44,9 @@ returns-clause-picked g c =
     let f = seen g.P.Party.made g.P.Party.journal g.P.Party.shut in
     let n : length (map f c.args.seats.now) ≡ length c.args.seats.now = long_map f c.args.seats.now in
     let w = c.find-place.ensures.within in
-    picked_told r key run _ _ _ entries c.next_word-word.result c.in_ok-count.count _ c.find-place.result.0 c.find-place.result.1 c.choice-choice.result _ _
+    picked_told r key run _ _ _ entries c.next_word-word.result c.in_ok-count.count _ c.find-place.result.0 c.find-place.result.1
+    c.choice-choice.result _ _
     u a s c.in_ok-count.ensures c.if-count-eq0.false c.next_word-word.ensures refl c.find-place.ensures
-    (λ v d e. subst (λ (x : SeatView). IsChosen x c.choice-choice.result (get_or (seat_steps x) c.find-place.result.1 d)) (view_at f c.args.seats.now c.find-place.result.0 c.index-seats-place.result v (omega arith) e) (c.choice-choice.ensures.chosen d))
+    (λ v d e. subst (λ (x : SeatView). IsChosen x c.choice-choice.result (get_or (seat_steps x) c.find-place.result.1 d))
+    (view_at f c.args.seats.now c.find-place.result.0 c.index-seats-place.result v (omega arith) e) (c.choice-choice.ensures.chosen d))
     c.in_ok-grew.ensures

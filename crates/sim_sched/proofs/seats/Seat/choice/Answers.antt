@@ -17,7 +17,8 @@ returns-then-number-len g c =
 pub returns : goal.returns
 returns g c =
     record {
-      possible = subst (λ (x : Choice). IsPossible (seen g.P.Party.made g.P.Party.journal g.P.Party.shut c.args.self.now) x) (sym c.choice_by.ensures) (event_possible (seen g.P.Party.made g.P.Party.journal g.P.Party.shut c.args.self.now) _ _ _);
+      possible = subst (λ (x : Choice). IsPossible (seen g.P.Party.made g.P.Party.journal g.P.Party.shut c.args.self.now) x)
+          (sym c.choice_by.ensures) (event_possible (seen g.P.Party.made g.P.Party.journal g.P.Party.shut c.args.self.now) _ _ _);
       chosen =
           λ d.
           let s = seen g.P.Party.made g.P.Party.journal g.P.Party.shut c.args.self.now in
@@ -25,7 +26,8 @@ returns g c =
           let b = c.moves-batch.ensures ∙ open_moves _ _ c.requires.open in
           let e = c.moves-emit.ensures ∙ open_moves _ _ c.requires.open in
           let n : c.len-2.result ≡ length c.args.self.now.way.items = omega arith in
-          let q : c.choice_by.result ≡ choice_after (moves s.maker s.journal Mover.Batch) (moves s.maker s.journal Mover.Emit) (c.args.number - length s.way) =
+          let q : c.choice_by.result
+          ≡ choice_after (moves s.maker s.journal Mover.Batch) (moves s.maker s.journal Mover.Emit) (c.args.number - length s.way) =
           c.choice_by.ensures ∙ ap (λ x. choice_after x c.moves-emit.result (c.args.number - c.len-2.result)) b
           ∙ ap (λ x. choice_after (moves s.maker s.journal Mover.Batch) x (c.args.number - c.len-2.result)) e
           ∙ ap (λ k. choice_after (moves s.maker s.journal Mover.Batch) (moves s.maker s.journal Mover.Emit) (c.args.number - k)) n in
