@@ -4,7 +4,7 @@ use crate::declared::Declared;
 use crate::fabric::Fabric;
 use crate::looking;
 use crate::messages::message;
-use crate::node::{Node, Seat, Turn, take};
+use crate::node::{Node, Seat, Turn};
 use crate::rounds::Alone;
 use crate::words::{Text, Unanswered, at, plain, replica};
 use fab_base::{NoMemory, ReplicaId};
@@ -117,9 +117,8 @@ fn of_replica(alloc: Global, fabric: &mut Fabric, declared: &Declared, line: &st
 
 /// Hears one of its mail.
 fn mail(alloc: Global, fabric: &mut Fabric, id: ReplicaId, turn: Turn) -> Text {
-    let node = fabric.node_mut(id)?;
-    match take(&mut node.mail, turn) {
-        Some(message) => answer_words(alloc, &node.seat.hear(message)?),
+    match fabric.hear(id, turn)? {
+        Some(answer) => answer_words(alloc, &answer),
         None => plain(alloc, "None"),
     }
 }

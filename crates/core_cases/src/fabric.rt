@@ -1,6 +1,6 @@
 //! All replicas of a fabric.
 use crate::limits::is_within_limits;
-use crate::node::{Node, Seat, Turn, put};
+use crate::node::{Node, Seat, Turn, letter, take};
 use crate::words::{Text, Unanswered, at, plain, small, smalls};
 use fab_base::{
     Duplicate, Item, MOST_CLUSTERS, MOST_MEMBERS, Members, Message, ReplicaId, Request, Who,
@@ -19,6 +19,8 @@ pub(crate) struct Fabric {
     alloc: Global,
     members: Members,
     nodes: Vec<Node>,
+    /// All that was sent, in order.
+    letters: Vec<Message>,
 }
 
 impl Fabric {
@@ -52,6 +54,7 @@ impl Fabric {
             alloc,
             members,
             nodes,
+            letters: Vec::new(alloc),
         })
     }
 
@@ -82,10 +85,12 @@ impl Fabric {
             return Err(Unanswered::Unreadable);
         }
         let home = self.members.home(request.client);
+        let number = self.letters.len();
+        self.letters.push(Message::Request(request))?;
         let mut copies = 0usize;
         for node in self.nodes.iter_mut() {
             if node.id.cluster == home {
-                put(&mut node.mail, Message::Request(request.duplicate()?))?;
+                node.mail.push_back(number)?;
                 copies = copies.saturating_add(1);
             }
         }
@@ -95,12 +100,22 @@ impl Fabric {
     /// What was sent goes to the mail of its receivers.
     pub(crate) fn deliver(&mut self, answer: &Answer) -> Result<(), Unanswered> {
         if let Answer::Sent(Item { message, to }) = answer {
+            let number = self.letters.len();
+            self.letters.push(message.duplicate()?)?;
             for id in to.as_slice() {
-                let copy = message.duplicate()?;
-                put(&mut self.node_mut(*id)?.mail, copy)?;
+                self.node_mut(*id)?.mail.push_back(number)?;
             }
         }
         Ok(())
+    }
+
+    /// The replica hears the oldest or the newest of its mail, if there is any.
+    pub(crate) fn hear(&mut self, id: ReplicaId, turn: Turn) -> Result<Option<Answer>, Unanswered> {
+        let Some(number) = take(&mut self.node_mut(id)?.mail, turn) else {
+            return Ok(None);
+        };
+        let message = letter(&self.letters, number)?;
+        Ok(Some(self.node_mut(id)?.seat.hear(message)?))
     }
 
     /// One event of each replica that has one in this turn. Answers how many there were.
@@ -108,7 +123,7 @@ impl Fabric {
         let mut events = 0u32;
         for place in 0..self.nodes.len() {
             if let Some(node) = self.nodes.get_mut(place)
-                && let Some(answer) = node.turn(turn)?
+                && let Some(answer) = node.turn(&self.letters, turn)?
             {
                 self.deliver(&answer)?;
                 events = events.saturating_add(1);

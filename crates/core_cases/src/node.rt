@@ -4,7 +4,7 @@ ghost use Rattle.fab_base.specs.Roster.{is_replica};
 
 use crate::words::Unanswered;
 use bft_msg::{Shaped, fits, shape};
-use fab_base::{Bytes, Members, Message, NoMemory, ReplicaId};
+use fab_base::{Bytes, Duplicate, Members, Message, NoMemory, ReplicaId};
 use replica_core::{Answer, Core, Event, Item, Mover, core};
 use round_exec::Rounds;
 use std::alloc::Global;
@@ -21,12 +21,13 @@ pub(crate) enum Turn {
     Nudge,
 }
 
-/// A replica, and the messages that came to it.
+/// A replica, and its mail.
 #[derive(Drop)]
 pub(crate) struct Node {
     pub(crate) id: ReplicaId,
     pub(crate) seat: Seat,
-    pub(crate) mail: VecDeque<Message>,
+    /// The numbers of the letters that came and weren't heard.
+    pub(crate) mail: VecDeque<usize>,
 }
 
 /// A replica with a handle to its members.
@@ -106,7 +107,7 @@ impl Seat {
 }
 
 /// The oldest or the newest of a replica's mail, which is taken out.
-pub(crate) fn take(mail: &mut VecDeque<Message>, turn: Turn) -> Option<Message> {
+pub(crate) fn take(mail: &mut VecDeque<usize>, turn: Turn) -> Option<usize> {
     match turn {
         Turn::Oldest => mail.pop_front(),
         Turn::Newest => mail.pop_back(),
@@ -114,17 +115,23 @@ pub(crate) fn take(mail: &mut VecDeque<Message>, turn: Turn) -> Option<Message> 
     }
 }
 
-/// A message comes to a replica's mail.
-pub(crate) fn put(mail: &mut VecDeque<Message>, message: Message) -> Result<(), NoMemory> {
-    mail.push_back(message)?;
-    Ok(())
+/// A copy of the letter of this number.
+pub(crate) fn letter(letters: &[Message], number: usize) -> Result<Message, Unanswered> {
+    match letters.get(number) {
+        Some(message) => Ok(message.duplicate()?),
+        None => Err(Unanswered::Unreadable),
+    }
 }
 
 impl Node {
     /// One event of this turn, if there is one.
-    pub(crate) fn turn(&mut self, turn: Turn) -> Result<Option<Answer>, Unanswered> {
-        if let Some(message) = take(&mut self.mail, turn) {
-            return Ok(Some(self.seat.hear(message)?));
+    pub(crate) fn turn(
+        &mut self,
+        letters: &[Message],
+        turn: Turn,
+    ) -> Result<Option<Answer>, Unanswered> {
+        if let Some(number) = take(&mut self.mail, turn) {
+            return Ok(Some(self.seat.hear(letter(letters, number)?)?));
         }
         match turn {
             Turn::Nudge => self.seat.act_first(&[Mover::Nudge]),
