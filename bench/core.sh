@@ -13,14 +13,7 @@ set -euo pipefail
 top=$(cd "$(dirname "${BASH_SOURCE[0]}")/.." && pwd)
 crate=$top/crates/core_cases
 program=$crate/out/core_cases
-work=$(mktemp -d)
-trap 'rm -rf "$work"' EXIT
-passed=0
-failed=0
-
-check() { # check WHAT HOLDS
-  if [ "$2" = 1 ]; then passed=$((passed + 1)); echo "ok: $1"; else failed=$((failed + 1)); echo "FAILED: $1"; fi
-}
+source "$top/bench/checks.sh"
 
 # Built anew where it isn't there or is older than its sources.
 if [ ! -x "$program" ] || [ -n "$(find "$top"/crates/*/src -newer "$program" -print -quit)" ]; then
@@ -115,5 +108,4 @@ growth=$(awk "BEGIN { printf \"%.2f\", $half ? 100 * ($whole - 2 * $half) / $hal
 check "an event: $((half / (8 * 332))) instructions in the first half, and $growth of 100 more in the second" \
   "$(awk "BEGIN { print ($half > 0 && $growth <= 5) }")"
 
-echo "$passed passed, $failed failed"
-[ "$failed" = 0 ]
+finish

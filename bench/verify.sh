@@ -8,14 +8,7 @@
 set -euo pipefail
 top=$(cd "$(dirname "${BASH_SOURCE[0]}")/.." && pwd)
 program=$("$top/tests/message_program.sh")
-work=$(mktemp -d)
-trap 'rm -rf "$work"' EXIT
-passed=0
-failed=0
-
-check() { # check WHAT HOLDS
-  if [ "$2" = 1 ]; then passed=$((passed + 1)); echo "ok: $1"; else failed=$((failed + 1)); echo "FAILED: $1"; fi
-}
+source "$top/bench/checks.sh"
 
 # Prints the instructions of SHA-256's block function and all instructions inside `verify`, for the message in LINE.
 count_verify() { # count_verify LINE
@@ -58,5 +51,4 @@ for message in "a Prepare" "a Share of 7 Commits" "a new view of 7 changes"; do
   fi
   line=$((line + 1))
 done
-echo "$passed passed, $failed failed"
-[ "$failed" = 0 ]
+finish

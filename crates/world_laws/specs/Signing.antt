@@ -47,7 +47,7 @@ signed_plea kind seed leaf x = record x { sig = signature_by seed leaf (kind x) 
 
 -- ---- a client's request: its bytes stand in batches, whose digests are computed
 
--- leaf 0, the types of W4 and of height 5, and nothing else
+-- it names the first leaf, the type codes that RFC 8554 gives W4 and a tree of five levels, and is zeros otherwise
 unfoldable pub blank_signature : List ℕ
 blank_signature = 0 ∷ 0 ∷ 0 ∷ 0 ∷ 0 ∷ 0 ∷ 0 ∷ 3 ∷ (replicate 2176 0 ++ 0 ∷ 0 ∷ 0 ∷ 5 ∷ replicate 160 0)
 
