@@ -2,5 +2,4 @@ pub mod Commands
 pub mod Exits
 pub mod Plain
 pub mod Statuses
-pub mod Text
 pub mod Transfer

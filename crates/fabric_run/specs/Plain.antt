@@ -7,7 +7,7 @@ use Rattle.fault_script.specs.declared.scripts.Script.{Script}
 use Rattle.fault_script.specs.declared.scripts.Wish.{Wish}
 use Rattle.fabric_run.specs.declared.exits.Exit.{Exit}
 use Rattle.fabric_run.specs.declared.exits.Exit.TheVariants.{Done}
-use Rattle.fabric_run.specs.Text.{reply_lines, table_text}
+use Rattle.ledger_report.specs.Text.{reply_lines, table_text}
 
 -- a request, which `plain` leaves unsigned
 abbrev pub request_of : Wish → Request

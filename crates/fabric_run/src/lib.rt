@@ -9,7 +9,6 @@
 mod command;
 mod exits;
 mod sequential;
-mod text;
 mod top;
 mod transfer;
 

@@ -7,11 +7,11 @@ ghost use Rattle.fabric_run.specs.Plain.{request_of, requests_of, plain_text, pl
 ghost use Rattle.fabric_run.specs.Exits.{seen, Ends, IsRun};
 
 use crate::exits::Exit;
-use crate::text::{push_done, push_replies, push_table};
 use crate::transfer::{script_from, write_all};
 use fab_base::{Batch, Bytes, NoMemory, Outcomes, Request, Rows};
 use fab_io::{Sink, Source};
 use fault_script::{Script, Wish};
+use ledger_report::{push_done, push_replies, push_table};
 use seq_table::{Table, table};
 use std::alloc::Global;
 

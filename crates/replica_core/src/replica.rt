@@ -1,5 +1,5 @@
 //! A replica, and a step of it.
-ghost use Rattle.std.specs.Prelude.{◌≡◌, true, false, IfOk, OnOk, OnErr, IsTrue};
+ghost use Rattle.std.specs.Prelude.{◌≡◌, true, false, length, IfOk, OnOk, OnErr, IsTrue};
 ghost use Rattle.std.specs.Option.{option_copied};
 ghost use Rattle.std.specs.Result.{is_ok};
 ghost use Rattle.fab_machine.specs.Step.{first, draft};
@@ -94,6 +94,13 @@ impl Core {
         ensures { option_copied result ≡ first self.now.state }
     {
         self.parts.first()
+    }
+
+    /// How many items wait to be sent. Takes no memory.
+    pub fn waiting(&self) -> usize
+        ensures { result ≡ length self.now.state.outbox }
+    {
+        self.parts.outbox.len()
     }
 
     /// What is to be signed of the first item: empty where another signs it or nobody does, and `None` exactly where none waits. It fails

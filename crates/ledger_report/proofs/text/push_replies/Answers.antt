@@ -4,8 +4,8 @@ use Rattle.std.proofs.lemmas.List.{append-nil}
 use Rattle.std.proofs.lemmas.Slice.Zip.{either_empty_from_Zip}
 use Rattle.fab_base.specs.declared.requests.Request.{Request}
 use Rattle.fab_base.specs.declared.requests.Outcome.{Outcome}
-use Rattle.fabric_run.specs.Text.{reply_lines}
-use Rattle.fabric_run.proofs.text.push_replies.Goals as goal
+use Rattle.ledger_report.specs.Text.{reply_lines}
+use Rattle.ledger_report.proofs.text.push_replies.Goals as goal
 
 -- where one of two lists has no item left, there is no line more
 no_line : (requests : List Request) (outcomes : List Outcome) → (requests ≡ []) ⊎ (outcomes ≡ []) → reply_lines requests outcomes ≡ []

@@ -1,6 +1,6 @@
 //! The lines of a report.
 ghost use Rattle.std.specs.Prelude.{◌≡◌, ◌++◌, codes, decimal, length, IfOk, OnOk};
-ghost use Rattle.fabric_run.specs.Text.{outcome_text, reply_line, reply_lines, entry_line, entry_lines, table_text};
+ghost use Rattle.ledger_report.specs.Text.{outcome_text, reply_line, reply_lines, entry_line, entry_lines, table_text};
 
 use fab_base::{Bytes, NoMemory, Outcome, Reply, Request};
 use itoa::Buffer;
@@ -51,7 +51,7 @@ fn push_reply(text: &mut Vec<u8>, request: &Request, outcome: &Outcome) -> Resul
 }
 
 /// Adds a line for each request, with what it came to.
-pub(crate) fn push_replies(
+pub fn push_replies(
     text: &mut Vec<u8>,
     requests: &[Request],
     outcomes: &[Outcome],
@@ -86,7 +86,7 @@ fn push_entries(text: &mut Vec<u8>, entries: &[(Bytes, Bytes)]) -> Result<(), No
 }
 
 /// Adds the lines of the table.
-pub(crate) fn push_table(text: &mut Vec<u8>, entries: &[(Bytes, Bytes)]) -> Result<(), NoMemory>
+pub fn push_table(text: &mut Vec<u8>, entries: &[(Bytes, Bytes)]) -> Result<(), NoMemory>
     ensures { OnOk result (text.new.items ≡ text.old.items ++ table_text entries.now) }
 {
     push_bytes(text, b"table ")?;
@@ -96,7 +96,7 @@ pub(crate) fn push_table(text: &mut Vec<u8>, entries: &[(Bytes, Bytes)]) -> Resu
 }
 
 /// Adds the last line of a report in which all is done.
-pub(crate) fn push_done(text: &mut Vec<u8>) -> Result<(), NoMemory>
+pub fn push_done(text: &mut Vec<u8>) -> Result<(), NoMemory>
     ensures { OnOk result (text.new.items ≡ text.old.items ++ codes "end done\n") }
 {
     push_bytes(text, b"end done\n")

@@ -1,0 +1,11 @@
+//! The audit of a run, and how it ended.
+//!
+//! [`audit`] goes through what each replica heard and finds the first thing that nobody who is correct can have made; [`end_of`] says how
+//! the run ended. Both look at the transcript alone. The words are those of `run_worlds`.
+#![tactic(auto)]
+
+mod auditing;
+mod ending;
+
+pub use auditing::audit;
+pub use ending::end_of;

@@ -1,0 +1,10 @@
+//! A correct replica in a run: a core that keeps its journal, its clock and its signer.
+#![tactic(auto)]
+
+mod logs;
+mod making;
+mod replaying;
+
+pub use logs::ReplicaLog;
+pub use making::replica_log;
+pub use replaying::replay;

@@ -1,0 +1,29 @@
+//! The making of a log.
+ghost use Rattle.std.specs.Prelude.{◌≡◌, Some, IfOk, IsTrue};
+ghost use Rattle.fab_base.specs.Roster.{is_replica};
+ghost use Rattle.fab_base.specs.declared.ids.Who.{Who};
+ghost use Rattle.bft_verify.specs.Ring.{key_of};
+ghost use Rattle.replica_log.specs.Logs.{fresh_log};
+
+use crate::logs::ReplicaLog;
+use bft_verify::Keyring;
+use fab_base::{Members, NoMemory, ReplicaId};
+use lms_tree::Signer;
+use std::alloc::Global;
+
+/// The log of a replica of which nothing was heard. The replica is one of the members, its signer has made no signature yet, and the
+/// signer's key is the ring's key of the replica. It fails only where memory is refused.
+pub fn replica_log<S: Signer + Drop>(
+    alloc: Global,
+    members: Members,
+    ring: Keyring,
+    me: ReplicaId,
+    signer: S,
+) -> Result<ReplicaLog<S>, NoMemory>
+    requires member { IsTrue (is_replica members me) }
+    requires unused { S.made signer ≡ 0 }
+    requires key { key_of ring (Who.Replica me) ≡ Some (S.key signer) }
+    ensures { IfOk result (λ log. log ≡ fresh_log members ring me signer) }
+{
+    Err(NoMemory)
+}

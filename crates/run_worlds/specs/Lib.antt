@@ -1,0 +1,4 @@
+pub mod Scripts
+pub mod Worlds
+pub mod Sights
+pub mod Endings
