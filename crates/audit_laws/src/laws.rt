@@ -1,9 +1,14 @@
 //! The laws of the runs of scripts.
-ghost use Rattle.audit_laws.specs.Laws.{SaneLaw, LimitsLaw};
+ghost use Rattle.audit_laws.specs.Laws.{SaneLaw, LimitsLaw, OneEnd};
 
 /// A script that keeps its limits has members within the limits of a fabric (`limits`), and what the laws of runs ask of its rules holds
 /// (`sane`): its replicas are apart, and its requests are sound for their receivers.
 pub fn script_law()
     ensures limits { LimitsLaw }
     ensures sane { SaneLaw }
+{}
+
+/// A run ends in one way.
+pub fn end_law()
+    ensures { OneEnd }
 {}
