@@ -1,12 +1,62 @@
 //! The replay of a journal.
 ghost use Rattle.std.specs.Prelude.{◌≡◌, false, IfOk, IsTrue};
 ghost use Rattle.fab_base.specs.Roster.{is_replica};
+ghost use Rattle.fab_rules.specs.Shape.{IsShaped};
+ghost use Rattle.fab_machine.specs.Diaries.{MayCome};
+ghost use Rattle.bft_verify.specs.Sound.{signature_of};
+ghost use Rattle.replica_core.specs.Cores as cores;
+ghost use Rattle.run_words.specs.Journal as journals;
 ghost use Rattle.run_words.specs.Journal.{Maker, state, IsMade, AreSound};
 
-use fab_base::{Members, NoMemory, ReplicaId};
-use replica_core::Core;
+use bft_msg::{Shaped, shape};
+use fab_base::{Bytes, Duplicate, Members, Message, NoMemory, ReplicaId};
+use replica_core::{Core, Event, core};
 use run_words::Entry;
 use std::alloc::Global;
+
+/// The signature that a message bears: empty where it is of a kind that nobody signs.
+fn signature(alloc: Global, message: &Message) -> Result<Bytes, NoMemory>
+    ensures { IfOk result (λ bytes. bytes ≡ signature_of message.now) }
+{
+    match message {
+        Message::Request(x) => x.sig.copy(),
+        Message::PrePrepare(x) => x.sig.copy(),
+        Message::Prepare(x) => x.sig.copy(),
+        Message::Commit(x) => x.sig.copy(),
+        Message::Checkpoint(x) => x.sig.copy(),
+        Message::ViewChange(x) => x.sig.copy(),
+        Message::NewView(x) => x.sig.copy(),
+        Message::Drvc(x) => x.sig.copy(),
+        Message::Rvc(x) => x.sig.copy(),
+        Message::ReplyNote(x) => x.sig.copy(),
+        Message::Share(_) | Message::Fetch(_) => Ok(Bytes::new(alloc)),
+    }
+}
+
+/// A copy of a message that was heard, shaped for the members as it was when it was heard.
+fn shaped(members: &Members, message: &Message) -> Result<Shaped, NoMemory>
+    requires { IsShaped members.now message.now }
+    ensures { IfOk result (λ shaped. shaped ≡ record { members = members.now; message = message.now }) }
+{
+    Ok(shape(members.share()?, message.duplicate()?).unwrap())
+}
+
+/// The event of an entry.
+fn event(alloc: Global, members: &Members, entry: &Entry) -> Result<Event, NoMemory>
+    requires { MayCome members.now (journals.event_of entry.now) }
+    ensures members { IfOk result (λ event. cores.IsFor members.now event) }
+    ensures is { IfOk result (λ event. cores.event_of event ≡ journals.event_of entry.now) }
+{
+    match entry {
+        Entry::Heard(_, message) => Ok(Event::Hear(shaped(members, message)?)),
+        Entry::Proposed => Ok(Event::Batch),
+        Entry::Nudged => Ok(Event::Nudge),
+        Entry::Sent(item) => Ok(Event::Emit {
+            sig: signature(alloc, &item.message)?,
+        }),
+        Entry::Executed => Ok(Event::Execute),
+    }
+}
 
 /// The core of a replica after the entries of a journal: what its machine is after the journal's events, in order, from the empty state.
 /// The journal is one that the replica's machine makes, and each message that it heard is sound, for whatever else the replica was made
@@ -22,5 +72,10 @@ pub fn replay(
     ensures { IfOk result (λ core. (m : Maker) → m.roster ≡ members → m.id ≡ me
         → core ≡ record { roster = members; me = me; state = state m journal.now; shut = false }) }
 {
-    Err(NoMemory)
+    let mut replica = core(alloc, members.share()?, me)?;
+    for entry in journal {
+        let event = event(alloc, &members, entry)?;
+        let _answer = replica.step(event)?;
+    }
+    Ok(replica)
 }

@@ -1,0 +1,70 @@
+-- The replay of a journal, entry by entry.
+use Rattle.std.proofs.Common.{◌≡◌, ℕ, zero, suc, ◌+◌, ◌<◌, ◌≤◌, false, List, [], ◌∷◌, ◌++◌, map, take, length, get_or, refl, sym, ap, subst, ◌∙◌, arith, take_all}
+use Rattle.std.proofs.lemmas.List.{take_more}
+use Rattle.fab_base.specs.Limits.{Roster}
+use Rattle.fab_base.specs.declared.ids.ReplicaId.{ReplicaId}
+use Rattle.fab_machine.specs.State.{Replica, fresh}
+use Rattle.fab_machine.specs.Step.{step}
+use Rattle.fab_machine.specs.Step as machine
+use Rattle.fab_machine.specs.Diaries.{MayCome, state_from, state_of}
+use Rattle.bft_verify.proofs.Soundness.{shaped_from_sound}
+use Rattle.replica_core.specs.Cores.{Machine, with_state, stepped}
+use Rattle.replica_core.specs.Cores as cores
+use Rattle.replica_core.specs.declared.events.Event as told
+use Rattle.run_words.specs.declared.logs.Entry.{Entry}
+use Rattle.run_words.specs.Journal.{Maker, event_of, state, AreSound}
+
+-- what the machine of a replica is after these entries
+abbrev pub replayed : Roster → ReplicaId → List Entry → Machine
+replayed members me journal = record { roster = members; me = me; state = state_of members me (map event_of journal); shut = false }
+
+state_from_more : (r : Roster) (me : ReplicaId) (s : Replica) (journal : List Entry) (e : Entry)
+    → state_from r me s (map event_of (journal ++ e ∷ [])) ≡ (step r me (state_from r me s (map event_of journal)) (event_of e)).state
+state_from_more r me s [] e = refl
+state_from_more r me s (x ∷ rest) e = state_from_more r me (step r me s (event_of x)).state rest e
+
+-- an entry more
+pub replays_more : (members : Roster) (me : ReplicaId) (journal : List Entry) (k : ℕ) (d : Entry) (old new : Machine) (event : told.Event)
+    → k < length journal → old ≡ replayed members me (take k journal) → cores.event_of event ≡ event_of (get_or journal k d)
+    → new ≡ with_state old (stepped old event).state
+    → new ≡ replayed members me (take (k + 1) journal)
+replays_more members me journal k d old new event lt is same done =
+    let core : Replica → Machine = λ s. record { roster = members; me = me; state = s; shut = false } in
+    let before = state_of members me (map event_of (take k journal)) in
+    done
+    ∙ ap (λ (c : Machine). with_state c (stepped c event).state) is
+    ∙ ap (λ (e : machine.Event). core (step members me before e).state) same
+    ∙ ap core (sym (state_from_more members me (fresh members me) (take k journal) (get_or journal k d)))
+    ∙ ap (replayed members me) (sym (take_more journal k d lt))
+
+-- all entries
+pub replays_all : (members : Roster) (me : ReplicaId) (journal : List Entry) (k : ℕ) (core : Machine) (m : Maker) → length journal ≤ k
+    → core ≡ replayed members me (take k journal) → m.roster ≡ members → m.id ≡ me
+    → core ≡ record { roster = members; me = me; state = state m journal; shut = false }
+unfolding state
+replays_all members me journal k core m ge is r i =
+    let made : Replica → Machine = λ s. record { roster = members; me = me; state = s; shut = false } in
+    is ∙ ap (replayed members me) (take_all k journal ge)
+    ∙ ap (λ (x : Roster). made (state_of x me (map event_of journal))) (sym r)
+    ∙ ap (λ (x : ReplicaId). made (state_of m.roster x (map event_of journal))) (sym i)
+
+may_come : (m : Maker) (e : Entry) → AreSound m (e ∷ []) → MayCome m.roster (event_of e)
+may_come m (Entry.Heard origin x) h = shaped_from_sound m.roster m.ring x h.0
+may_come m Entry.Proposed h = tt
+may_come m Entry.Nudged h = tt
+may_come m (Entry.Sent item) h = tt
+may_come m Entry.Executed h = tt
+
+sound_at : (m : Maker) (journal : List Entry) (k : ℕ) (d : Entry) → k < length journal → AreSound m journal
+    → MayCome m.roster (event_of (get_or journal k d))
+sound_at m [] k d lt h = absurd (omega arith)
+sound_at m (e ∷ rest) zero d lt h = may_come m e (h.0, tt)
+sound_at m (e ∷ rest) (suc k) d lt h = sound_at m rest k d (omega arith) h.1
+
+-- the event of the entry at a place may come
+pub comes_at : (m : Maker) (members : Roster) (journal : List Entry) (k : ℕ) (e : Entry) → m.roster ≡ members → k < length journal
+    → e ≡ get_or journal k e → AreSound m journal
+    → MayCome members (event_of e)
+comes_at m members journal k e r lt is h =
+    subst (λ (x : Entry). MayCome members (event_of x)) (sym is)
+    (subst (λ (x : Roster). MayCome x (event_of (get_or journal k e))) r (sound_at m journal k e lt h))
