@@ -8,14 +8,14 @@ use std::io::ErrorKind;
 use std::process::ExitCode;
 use std::{env, fmt, io};
 
-/// The line on standard error for an exit, where it has one.
+/// The line on standard error for an exit at which not all was written.
 #[derive(Drop)]
 struct Line<'a>(&'a Exit);
 
 impl Display for Line<'_> {
     fn fmt<W: Write>(&self, f: &mut Formatter<W>) -> fmt::Result {
         match self.0 {
-            Exit::Done => Ok(()),
+            Exit::Done | Exit::Stalled { .. } | Exit::Spent { .. } | Exit::Broken(_) => Ok(()),
             Exit::Usage => {
                 write!(
                     f,
@@ -29,6 +29,14 @@ impl Display for Line<'_> {
             Exit::NoMemory => write!(f, "no memory"),
         }
     }
+}
+
+/// Whether all was written. The report itself then says how the run ended.
+fn is_written(exit: &Exit) -> bool {
+    matches!(
+        exit,
+        Exit::Done | Exit::Stalled { .. } | Exit::Spent { .. } | Exit::Broken(_)
+    )
 }
 
 /// The exit of the top call over standard input and output.
@@ -48,7 +56,7 @@ fn run(rt: &HostRuntime) -> Exit {
 
 fn main(rt: HostRuntime) -> ExitCode {
     let exit = run(&rt);
-    if !matches!(exit, Exit::Done) {
+    if !is_written(&exit) {
         let line = Line(&exit);
         let _ = eprintln!(rt; "{line}");
     }

@@ -35,34 +35,42 @@ Stops old new NoMemory = GaveSome old new
 -- at any other exit something is written, or nothing is read
 Stops old new exit = ⊥
 
--- what each exit of a command over a script tells, where `made` is what the command makes of a script: an exit and a text
-abbrev pub Ends : (Script → Exit × List ℕ) → Seen → Seen → Exit → Type 0
--- a write failed: the sink took just so many bytes of the text of the script that was read, from the front
-Ends made old new (WriteFault written) =
-    Rose old.sink.faults new.sink.faults
-    × ((script : Script) × GaveScript old.source new.source script
-    × (written < length (made script).1) × Appends old.sink.taken new.sink.taken (take written (made script).1))
+-- a write failed: the sink took just so many bytes of a text that the command makes of the script that was read, from the front
+abbrev pub WroteSome : (Script → Exit → List ℕ → Type 0) → Seen → Seen → ℕ → Type 0
+WroteSome makes old new written =
+    (script : Script) × GaveScript old.source new.source script
+    × ((exit : Exit) × ((text : List ℕ) × makes script exit text
+    × (written < length text) × Appends old.sink.taken new.sink.taken (take written text)))
+
+-- the command makes this exit of the script that was read, and the sink took the whole text that goes with it
+abbrev pub WroteAll : (Script → Exit → List ℕ → Type 0) → Seen → Seen → Exit → Type 0
+WroteAll makes old new exit =
+    (script : Script) × GaveScript old.source new.source script
+    × ((text : List ℕ) × makes script exit text × Appends old.sink.taken new.sink.taken text)
+
+-- what each exit of a command over a script tells, where `makes` says which exit and text the command makes of a script
+abbrev pub Ends : (Script → Exit → List ℕ → Type 0) → Seen → Seen → Exit → Type 0
+Ends makes old new (WriteFault written) = Rose old.sink.faults new.sink.faults × WroteSome makes old new written
 -- the source, its bytes or the memory gave no text, and nothing was written
-Ends made old new ReadFault = Stops old.source new.source ReadFault × Keeps old.sink.taken new.sink.taken
-Ends made old new TooLong = Stops old.source new.source TooLong × Keeps old.sink.taken new.sink.taken
-Ends made old new (BadScript bad) = Stops old.source new.source (BadScript bad) × Keeps old.sink.taken new.sink.taken
-Ends made old new NoMemory = Stops old.source new.source NoMemory × Keeps old.sink.taken new.sink.taken
+Ends makes old new ReadFault = Stops old.source new.source ReadFault × Keeps old.sink.taken new.sink.taken
+Ends makes old new TooLong = Stops old.source new.source TooLong × Keeps old.sink.taken new.sink.taken
+Ends makes old new (BadScript bad) = Stops old.source new.source (BadScript bad) × Keeps old.sink.taken new.sink.taken
+Ends makes old new NoMemory = Stops old.source new.source NoMemory × Keeps old.sink.taken new.sink.taken
 -- the words were a command
-Ends made old new Usage = ⊥
--- the exit is that of the script that was read, and the sink took its whole text
-Ends made old new exit =
-    (script : Script) × GaveScript old.source new.source script × (exit ≡ (made script).0)
-    × Appends old.sink.taken new.sink.taken (made script).1
+Ends makes old new Usage = ⊥
+-- all was written
+Ends makes old new exit = WroteAll makes old new exit
 
 -- a script is too long exactly where the source gave the byte after the last one that a script may have, as far as its count tells
 abbrev pub IsTooLong : Supply → Supply → Exit → Type 0
 IsTooLong old new exit = new.given < 2 ^ 64 - 1 → ((exit ≡ TooLong) ↔ (old.given + SCRIPT_BYTES < new.given))
 
--- where no device fails, and the source has the bytes of a script, the exit is that of the script
-abbrev pub Completes : (Script → Exit × List ℕ) → Seen → Seen → Exit → Type 0
-Completes made old new exit =
+-- where no device fails, and the source has the bytes of a script, the exit is one that the command makes of the script
+abbrev pub Completes : (Script → Exit → List ℕ → Type 0) → Seen → Seen → Exit → Type 0
+Completes makes old new exit =
     (bytes : List ℕ) (script : Script) → old.source.left ≡ Some bytes → length bytes ≤ SCRIPT_BYTES → script_of bytes ≡ Ok script
-    → ¬ Rose old.source.faults new.source.faults → ¬ Rose old.sink.faults new.sink.faults → (exit ≡ (made script).0) ⊎ (exit ≡ NoMemory)
+    → ¬ Rose old.source.faults new.source.faults → ¬ Rose old.sink.faults new.sink.faults
+    → ((text : List ℕ) × makes script exit text) ⊎ (exit ≡ NoMemory)
 
 -- where no read fails, and the source has the bytes of a script with a bad line, the first one is named
 abbrev pub NamesBad : Supply → Supply → Exit → Type 0
@@ -71,8 +79,8 @@ NamesBad old new exit =
     → ¬ Rose old.faults new.faults → (exit ≡ BadScript bad) ⊎ (exit ≡ NoMemory)
 
 -- a run of a command over a script from one moment to the other, and how it ended
-pub record IsRun (made : Script → Exit × List ℕ) (old new : Seen) (exit : Exit) : Type 0 where
-  pub ends : Ends made old new exit
+pub record IsRun (makes : Script → Exit → List ℕ → Type 0) (old new : Seen) (exit : Exit) : Type 0 where
+  pub ends : Ends makes old new exit
   pub too_long : IsTooLong old.source new.source exit
-  pub completes : Completes made old new exit
+  pub completes : Completes makes old new exit
   pub names_bad : NamesBad old.source new.source exit

@@ -1,5 +1,5 @@
 -- What `plain` writes (ours): the meaning of a script when its requests are applied in its order, one after another.
-use Rattle.std.specs.Prelude.{ℕ, List, [], ◌++◌, length, map, codes}
+use Rattle.std.specs.Prelude.{◌≡◌, ℕ, List, [], ◌++◌, length, map, codes}
 use Rattle.fab_base.specs.declared.requests.Outcome.{Outcome}
 use Rattle.fab_base.specs.declared.requests.Request.{Request}
 use Rattle.fab_base.specs.Table.{State, empty_state, outcomes_of, state_after_all}
@@ -33,6 +33,6 @@ abbrev pub plain_text : Script → List ℕ
 plain_text script =
     reply_lines (requests_of script) (plain_outcomes script) ++ table_text (plain_state script).entries ++ codes "end done\n"
 
--- what `plain` makes of a script
-abbrev pub plain_made : Script → Exit × List ℕ
-plain_made script = (Done, plain_text script)
+-- what `plain` makes of a script: it is done, with the script's text
+abbrev pub PlainMakes : Script → Exit → List ℕ → Type 0
+PlainMakes script exit text = (exit ≡ Done) × (text ≡ plain_text script)

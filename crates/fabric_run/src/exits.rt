@@ -2,10 +2,12 @@
 ghost use Rattle.std.specs.Prelude.{◌≡◌};
 ghost use Rattle.fabric_run.specs.Statuses.{status_of};
 
+use fab_base::ClientId;
 use fault_script::BadScript;
+use run_words::Evidence;
 
 /// How a call of the program ends.
-#[derive(Clone, Copy, Debug, Drop, PartialEq, Eq)]
+#[derive(Debug, Drop)]
 pub enum Exit {
     /// All was done and written.
     Done,
@@ -22,6 +24,21 @@ pub enum Exit {
     TooLong,
     /// The script has a bad line. Nothing was written.
     BadScript(BadScript),
+    /// Nothing moved any more, and some request of the script had no effect in some replica's ledger: the first, in the order of the
+    /// script. All was written.
+    Stalled {
+        /// Who asked.
+        client: ClientId,
+        /// The number of the request among the client's, from 1.
+        stamp: u32,
+    },
+    /// The run was cut off: it had as many entries as the script allows. All was written.
+    Spent {
+        /// The number of entries of all journals.
+        entries: u64,
+    },
+    /// A premise under which ledgers agree doesn't hold of the run. All was written.
+    Broken(Evidence),
     /// Memory was refused. Nothing was written.
     NoMemory,
 }
@@ -38,6 +55,12 @@ impl Exit {
             Exit::WriteFault { written: _ } => 4,
             Exit::TooLong => 5,
             Exit::BadScript(_) => 6,
+            Exit::Stalled {
+                client: _,
+                stamp: _,
+            } => 7,
+            Exit::Spent { entries: _ } => 8,
+            Exit::Broken(_) => 9,
             Exit::NoMemory => 10,
         }
     }

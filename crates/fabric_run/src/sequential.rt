@@ -3,7 +3,7 @@ ghost use Rattle.std.specs.Prelude.{◌≡◌, ◌<◌, length, true, All, IfOk,
 ghost use Rattle.fab_base.specs.Table.{outcomes_of, state_after_all};
 ghost use Rattle.seq_table.specs.Holding.{state_of, WritesShort};
 ghost use Rattle.fault_script.specs.Scripts.{keeps_limits};
-ghost use Rattle.fabric_run.specs.Plain.{request_of, requests_of, plain_text, plain_made};
+ghost use Rattle.fabric_run.specs.Plain.{request_of, requests_of, plain_text, PlainMakes};
 ghost use Rattle.fabric_run.specs.Exits.{seen, Ends, IsRun};
 
 use crate::exits::Exit;
@@ -68,7 +68,7 @@ fn text_of(alloc: Global, script: Script) -> Result<Bytes, NoMemory>
 
 /// What `plain` does.
 fn run<S: Source, K: Sink>(alloc: Global, script: &mut S, report: &mut K) -> Exit
-    ensures { Ends plain_made (seen (S.supply script.old) (K.intake report.old)) (seen (S.supply script.new) (K.intake report.new)) result }
+    ensures { Ends PlainMakes (seen (S.supply script.old) (K.intake report.old)) (seen (S.supply script.new) (K.intake report.new)) result }
 {
     let script = match script_from(alloc, script) {
         Ok(script) => script,
@@ -93,7 +93,7 @@ fn run<S: Source, K: Sink>(alloc: Global, script: &mut S, report: &mut K) -> Exi
 /// `TooLong` comes exactly where the source gave one byte more than `SCRIPT_BYTES`. `BadScript` names the first bad line and its
 /// first cause. `NoMemory` comes only where memory is refused. But for `Done` and `WriteFault` nothing was written.
 pub fn plain<S: Source, K: Sink>(alloc: Global, script: &mut S, report: &mut K) -> Exit
-    ensures { IsRun plain_made (seen (S.supply script.old) (K.intake report.old)) (seen (S.supply script.new) (K.intake report.new)) result }
+    ensures { IsRun PlainMakes (seen (S.supply script.old) (K.intake report.old)) (seen (S.supply script.new) (K.intake report.new)) result }
 {
     run(alloc, script, report)
 }

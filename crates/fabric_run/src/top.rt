@@ -1,7 +1,7 @@
 //! The top call.
 ghost use Rattle.std.specs.Prelude.{◌≡◌, ◌↔◌, map, string_bytes, Some, None};
 ghost use Rattle.fabric_run.specs.Commands.{command_of};
-ghost use Rattle.fabric_run.specs.Plain.{plain_made};
+ghost use Rattle.fabric_run.specs.Plain.{PlainMakes};
 ghost use Rattle.fabric_run.specs.Exits.{seen, IsRun};
 
 use crate::command::{Command, command_of};
@@ -21,7 +21,7 @@ pub fn fabric<S: Source, K: Sink>(
 ) -> Exit
     ensures usage { (result ≡ Exit.Usage) ↔ (command_of (map string_bytes words.now) ≡ None) }
     ensures untouched { result ≡ Exit.Usage → (script.new ≡ script.old) × (report.new ≡ report.old) }
-    ensures plain { command_of (map string_bytes words.now) ≡ Some Command.Plain → IsRun plain_made
+    ensures plain { command_of (map string_bytes words.now) ≡ Some Command.Plain → IsRun PlainMakes
         (seen (S.supply script.old) (K.intake report.old)) (seen (S.supply script.new) (K.intake report.new)) result }
 {
     match command_of(words) {
