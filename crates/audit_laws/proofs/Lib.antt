@@ -4,3 +4,7 @@ pub mod Ends
 pub mod Journals
 pub mod Traces
 pub mod Premises
+pub mod Batches
+pub mod Signers
+pub mod Walks
+pub mod Evidence

@@ -96,16 +96,16 @@ module _ (script : Script) where
           absurd cc
       go false e later (inr k) = after e (later k)
 
-  -- who isn't among them: nothing is asked of it
-  pub signed_if : (traces : List Trace) (i : ReplicaId) (content : List ℕ)
-      → ((trace : Trace) → In trace traces → trace.id ≡ i → list_any (bytes_eq content) trace.signed ≡ true) → is_signed_by traces i content ≡ true
-  signed_if [] i content h = refl
-  signed_if (t ∷ traces) i content h = go (is_same i t.id) refl (signed_if traces i content (λ trace k e. h trace (inr k) e))
-    where
-      go : (b : Bool) → is_same i t.id ≡ b → is_signed_by traces i content ≡ true
-          → cond b (list_any (bytes_eq content) t.signed) (is_signed_by traces i content) ≡ true
-      go true e later = h t (inl refl) (sym (same_is i t.id e))
-      go false e later = later
+-- who isn't among them: nothing is asked of it
+pub signed_if : (traces : List Trace) (i : ReplicaId) (content : List ℕ)
+    → ((trace : Trace) → In trace traces → trace.id ≡ i → list_any (bytes_eq content) trace.signed ≡ true) → is_signed_by traces i content ≡ true
+signed_if [] i content h = refl
+signed_if (t ∷ traces) i content h = go (is_same i t.id) refl (signed_if traces i content (λ trace k e. h trace (inr k) e))
+  where
+    go : (b : Bool) → is_same i t.id ≡ b → is_signed_by traces i content ≡ true
+        → cond b (list_any (bytes_eq content) t.signed) (is_signed_by traces i content) ≡ true
+    go true e later = h t (inl refl) (sym (same_is i t.id e))
+    go false e later = later
 
 -- ---- of a run
 

@@ -1,11 +1,18 @@
 //! The laws of the runs of scripts.
-ghost use Rattle.audit_laws.specs.Laws.{SaneLaw, LimitsLaw, WorldLaw, OneEnd};
+ghost use Rattle.audit_laws.specs.Laws.{SaneLaw, LimitsLaw, WorldLaw, CleanLaw, EvidenceLaw, OneEnd};
 
 /// A script that keeps its limits has members within the limits of a fabric (`limits`), and what the laws of runs ask of its rules holds
 /// (`sane`): its replicas are apart, and its requests are sound for their receivers.
 pub fn script_law()
     ensures limits { LimitsLaw }
     ensures sane { SaneLaw }
+{}
+
+/// A run has no evidence exactly where no signature in it is forged and no two of its batches share a digest: where it has none, both
+/// hold of its world (`clean`), and where both hold, it has none (`only`).
+pub fn evidence_law()
+    ensures clean { CleanLaw }
+    ensures only { EvidenceLaw }
 {}
 
 /// The world of a lawful run is one that the headline speaks of: what its replicas heard is sound, they are honest, and no cluster has more

@@ -6,4 +6,4 @@
 
 mod laws;
 
-pub use laws::{end_law, safe_law, script_law};
+pub use laws::{end_law, evidence_law, safe_law, script_law};
