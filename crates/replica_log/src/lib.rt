@@ -1,8 +1,13 @@
 //! A correct replica in a run: a core that keeps its journal, its clock and its signer.
 #![tactic(auto)]
 
+mod acting;
+mod hearing;
+mod keepers;
 mod logs;
 mod making;
+mod moving;
+mod party;
 mod replaying;
 
 pub use logs::ReplicaLog;

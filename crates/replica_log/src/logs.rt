@@ -1,62 +1,24 @@
 //! A replica's log.
-ghost use Rattle.std.specs.Prelude.{◌≡◌, false, not, ◌&&◌, length, IfOk};
-ghost use Rattle.run_words.specs.Journal.{moves};
-ghost use Rattle.run_words.specs.Acts.{IsFor, Acted, StaysOpen, IsTraceBut};
-ghost use Rattle.run_words.specs.Runs.{trace_of};
-ghost use Rattle.replica_log.specs.Logs.{made_of};
-
-use bft_verify::Keyring;
-use fab_base::{Members, NoMemory, ReplicaId};
+use crate::keepers::Keeper;
 use lms_tree::Signer;
-use run_words::{Act, Entry, Mover, Party, Told, Trace};
 use std::marker::Model;
 
-/// Nothing.
+/// A replica's log: its core with the journal of what the core did, which the core's state follows from. Contracts see whose it is, the
+/// journal, the signer, and whether the log was shut: where memory is refused in the middle of an act, something may be counted and its
+/// entry not made, so from then on every act answers `NoMemory`.
 #[derive(Drop)]
-pub(crate) enum Never {}
-
-/// A replica's log.
-#[derive(Drop)]
-pub struct ReplicaLog<S> {
-    pub(crate) me: ReplicaId,
-    pub(crate) members: Members,
-    pub(crate) ring: Keyring,
-    pub(crate) journal: Vec<Entry>,
+pub struct ReplicaLog<S: Signer> {
+    pub(crate) keeper: Keeper<S>,
     pub(crate) shut: bool,
-    pub(crate) signer: S,
-    pub(crate) never: Never,
 }
 
-impl<S> Model for ReplicaLog<S> {
+impl<S: Signer> Model for ReplicaLog<S> {
     ghost use Rattle.replica_log.specs.Logs.{Log};
+    ghost use Rattle.replica_log.specs.Keeping.{IsLog};
 
     ghost Value = { Log S };
 
-    ghost view = { λ log. record { me = log.me; roster = log.members; ring = log.ring; journal = log.journal.items; shut = log.shut; signer = log.signer } };
-}
+    ghost view = { λ log. record { me = log.keeper.me; roster = log.keeper.members; ring = log.keeper.ring; journal = log.keeper.journal.items; shut = log.shut; signer = log.keeper.signer } };
 
-impl<S: Signer + Drop> Party for ReplicaLog<S> {
-    ghost use Rattle.replica_log.specs.Logs.{made_of};
-
-    ghost made = { made_of S.limit S.gives };
-
-    ghost journal = { λ log. log.journal };
-
-    ghost shut = { λ log. log.shut };
-
-    fn entries(&self) -> u64 {
-        match self.never {}
-    }
-
-    fn moves(&self, mover: Mover) -> bool {
-        match self.never {}
-    }
-
-    fn act(&mut self, act: Act) -> Told {
-        match self.never {}
-    }
-
-    fn trace(self) -> Result<Trace, NoMemory> {
-        Err(NoMemory)
-    }
+    ghost invariant = { λ log. IsLog S.limit S.made S.gives log.keeper log.shut };
 }

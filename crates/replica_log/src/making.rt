@@ -5,10 +5,12 @@ ghost use Rattle.fab_base.specs.declared.ids.Who.{Who};
 ghost use Rattle.bft_verify.specs.Ring.{key_of};
 ghost use Rattle.replica_log.specs.Logs.{fresh_log};
 
+use crate::keepers::Keeper;
 use crate::logs::ReplicaLog;
 use bft_verify::Keyring;
 use fab_base::{Members, NoMemory, ReplicaId};
 use lms_tree::Signer;
+use replica_core::core;
 use std::alloc::Global;
 
 /// The log of a replica of which nothing was heard. The replica is one of the members, its signer has made no signature yet, and the
@@ -25,5 +27,19 @@ pub fn replica_log<S: Signer + Drop>(
     requires key { key_of ring (Who.Replica me) ≡ Some (S.key signer) }
     ensures { IfOk result (λ log. log ≡ fresh_log members ring me signer) }
 {
-    Err(NoMemory)
+    let core = core(alloc, members.share()?, me)?;
+    let keeper = Keeper {
+        me,
+        members,
+        ring,
+        core,
+        journal: Vec::new(alloc),
+        clock: 0,
+        signed: Vec::new(alloc),
+        signer,
+    };
+    Ok(ReplicaLog {
+        keeper,
+        shut: false,
+    })
 }
