@@ -1,4 +1,4 @@
--- A run has no evidence exactly where nothing in its world is forged and no two batches share a digest.
+-- A run has no evidence exactly where nothing in its world is forged and no two batches share a digest: then it is safe.
 use Rattle.std.proofs.Common.{◌≡◌, true, ◌⊎◌, List, [], inl, inr, refl, sym, subst}
 use Rattle.std.specs.Option.{is_some}
 use Rattle.fab_base.specs.declared.ids.ReplicaId.{ReplicaId}
@@ -10,6 +10,7 @@ use Rattle.fab_rules.specs.Statements.{signer_of, parts_of}
 use Rattle.fab_rules.proofs.Lists.{of_filter}
 use Rattle.fab_rules.proofs.Parts.{part_is_statement}
 use Rattle.world_laws.specs.World.{World, IsCorrect, IsMade, AllMade, Unforged, IsKnown, NoClash}
+use Rattle.world_laws.proofs.Headline.{worlds_are_safe}
 use Rattle.world_laws.proofs.Made as worlds
 use Rattle.world_laws.proofs.Made.{heard_part_fits}
 use Rattle.run_words.specs.declared.logs.Origin.{Origin}
@@ -19,11 +20,11 @@ use Rattle.run_words.specs.declared.logs.Transcript.{Transcript}
 use Rattle.run_worlds.specs.Scripts.{maker_of}
 use Rattle.run_worlds.specs.Worlds.{world_of}
 use Rattle.run_worlds.specs.Endings.{IsRunOf}
-use Rattle.audit_laws.specs.Laws.{CleanLaw, EvidenceLaw}
+use Rattle.audit_laws.specs.Laws.{CleanLaw, EvidenceLaw, SafeLaw}
 use Rattle.audit_laws.proofs.Members.{is_listed, takes_part}
 use Rattle.audit_laws.proofs.Journals.{was_heard, is_heard}
 use Rattle.audit_laws.proofs.Traces.{trace_is, trace_of}
-use Rattle.audit_laws.proofs.Premises.{is_world}
+use Rattle.audit_laws.proofs.Premises.{is_world, all_honest, few_faulty}
 use Rattle.audit_laws.proofs.Signers.{made_from_test, test_from_made}
 use Rattle.audit_laws.proofs.Walks.{IsPartMade, IsSeen, IsClean, IsPlain, clean, finds_nothing}
 
@@ -96,3 +97,10 @@ clean_run t run none = let c = clean t none in (unforged t run c, no_clash t run
 
 pub no_evidence : EvidenceLaw
 no_evidence t run forged none = finds_nothing t (IsMet t run) none (inl refl) (plain t run forged none)
+
+-- so a run without evidence is safe
+pub safe_run : SafeLaw
+safe_run t run none =
+    let w = world_of t in
+    let p = clean_run t run none in
+    worlds_are_safe w (is_world t run) (all_honest t run) (few_faulty t run) p.0 p.1

@@ -1,5 +1,5 @@
 //! The laws of the runs of scripts.
-ghost use Rattle.audit_laws.specs.Laws.{SaneLaw, LimitsLaw, WorldLaw, CleanLaw, EvidenceLaw, OneEnd};
+ghost use Rattle.audit_laws.specs.Laws.{SaneLaw, LimitsLaw, WorldLaw, CleanLaw, EvidenceLaw, SafeLaw, OneEnd};
 
 /// A script that keeps its limits has members within the limits of a fabric (`limits`), and what the laws of runs ask of its rules holds
 /// (`sane`): its replicas are apart, and its requests are sound for their receivers.
@@ -16,9 +16,10 @@ pub fn evidence_law()
 {}
 
 /// The world of a lawful run is one that the headline speaks of: what its replicas heard is sound, they are honest, and no cluster has more
-/// faulty members than it bears (`world`).
+/// faulty members than it bears (`world`). So a run without evidence is safe (`safe`).
 pub fn safe_law()
     ensures world { WorldLaw }
+    ensures safe { SafeLaw }
 {}
 
 /// A run ends in one way.
