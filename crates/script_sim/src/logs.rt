@@ -1,0 +1,81 @@
+//! The logs that a run starts with.
+ghost use Rattle.std.specs.Prelude.{◌≡◌, ◌≤◌, ◌++◌, Some, length, IfOk, OnOk, IsTrue};
+ghost use Rattle.fab_base.specs.Roster.{is_replica};
+ghost use Rattle.fab_base.specs.declared.ids.Who.{Who};
+ghost use Rattle.fab_base.specs.declared.limits.TheConstants.{MOST_CLUSTERS};
+ghost use Rattle.fault_script.specs.declared.scripts.Script.{Script};
+ghost use Rattle.lms_tree.specs.Keys.{public_of_key};
+ghost use Rattle.bft_verify.specs.Ring.{key_of};
+ghost use Rattle.replica_log.specs.Logs.{fresh_log};
+ghost use Rattle.script_keys.specs.Keys.{members_of, replicas_from, replicas_of, signers_of};
+ghost use Rattle.script_keys.specs.Rings.{ring_of};
+ghost use Rattle.run_worlds.specs.Scripts.{roster_of};
+ghost use Rattle.script_sim.specs.Schedules.{logs_of};
+
+use bft_verify::Keyring;
+use fab_base::{Members, NoMemory, ReplicaId};
+use fault_script::Script;
+use lms_leaf::LeafSigner;
+use replica_log::{ReplicaLog, replica_log};
+use std::alloc::Global;
+
+/// Puts the members of a cluster of this size behind others, by index.
+fn put_members(replicas: &mut Vec<ReplicaId>, cluster: u8, size: u8) -> Result<(), NoMemory>
+    ensures { OnOk result (replicas.new.items ≡ replicas.old.items ++ members_of cluster size) }
+{
+    for index in 0..size {
+        replicas.push(ReplicaId { cluster, index })?;
+    }
+    Ok(())
+}
+
+/// The replicas of clusters of these sizes, by id.
+pub(crate) fn replicas_of(alloc: Global, sizes: &[u8]) -> Result<Vec<ReplicaId>, NoMemory>
+    requires { length sizes.now ≤ MOST_CLUSTERS }
+    ensures { IfOk result (λ replicas. replicas.items ≡ replicas_from 1 sizes.now) }
+{
+    let mut replicas = Vec::new(alloc);
+    for before in 0..sizes.len() {
+        put_members(&mut replicas, before as u8 + 1, sizes[before])?;
+    }
+    Ok(replicas)
+}
+
+/// The log of one replica.
+fn log_of(
+    alloc: Global,
+    members: &Members,
+    ring: &Keyring,
+    me: ReplicaId,
+    signer: LeafSigner,
+) -> Result<ReplicaLog<LeafSigner>, NoMemory>
+    requires member { IsTrue (is_replica members.now me) }
+    requires unused { signer.used ≡ 0 }
+    requires key { key_of ring.now (Who.Replica me) ≡ Some (public_of_key signer.key) }
+    ensures { IfOk result (λ log. log ≡ fresh_log members.now ring.now me signer) }
+{
+    replica_log(alloc, members.share()?, ring.share()?, me, signer)
+}
+
+/// The log of each replica of a script, by id.
+pub(crate) fn logs_of(
+    alloc: Global,
+    script: &Script,
+    members: &Members,
+    ring: &Keyring,
+    replicas: &[ReplicaId],
+    signers: Vec<LeafSigner>,
+) -> Result<Vec<ReplicaLog<LeafSigner>>, NoMemory>
+    requires members { members.now ≡ roster_of script.now }
+    requires ring { ring.now ≡ ring_of script.now }
+    requires replicas { replicas.now ≡ replicas_of script.now }
+    requires signers { signers.items ≡ signers_of script.now }
+    ensures { IfOk result (λ logs. logs.items ≡ logs_of script.now) }
+{
+    let mut logs = Vec::new(alloc);
+    for signer in signers {
+        let log = log_of(alloc, members, ring, replicas[logs.len()], signer)?;
+        logs.push(log)?;
+    }
+    Ok(logs)
+}
