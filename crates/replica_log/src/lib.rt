@@ -7,8 +7,11 @@ mod keepers;
 mod logs;
 mod making;
 mod moving;
+mod numbering;
 mod party;
+mod posting;
 mod replaying;
+mod tracing;
 
 pub use logs::ReplicaLog;
 pub use making::replica_log;

@@ -1,0 +1,72 @@
+//! The numbers of parcels.
+ghost use Rattle.std.specs.Prelude.{◌≡◌, [], IfOk, OnOk};
+ghost use Rattle.replica_log.specs.Posting.{number_in, raised, IsPlace};
+
+use fab_base::{NoMemory, ReplicaId};
+use std::alloc::Global;
+use std::marker::Model;
+
+/// How many parcels were put to each receiver. A receiver of none needn't be listed.
+#[derive(Drop)]
+pub(crate) struct Numbers {
+    counts: Vec<(ReplicaId, u64)>,
+}
+
+impl Model for Numbers {
+    ghost use Rattle.replica_log.specs.Posting.{Counts};
+
+    ghost Value = { Counts };
+
+    ghost view = { λ numbers. numbers.counts.items };
+}
+
+impl Numbers {
+    /// Of no parcels. Takes no memory.
+    pub(crate) fn new(alloc: Global) -> Numbers
+        ensures { result ≡ [] }
+    {
+        Numbers {
+            counts: Vec::new(alloc),
+        }
+    }
+
+    /// Equal numbers. It fails only where memory is refused.
+    pub(crate) fn copy(&self) -> Result<Numbers, NoMemory>
+        ensures { IfOk result (λ copy. copy ≡ self.now) }
+    {
+        Ok(Numbers {
+            counts: self.counts.to_vec(*self.counts.allocator())?,
+        })
+    }
+
+    /// Where a receiver is listed.
+    fn place(&self, to: ReplicaId) -> Option<usize>
+        ensures { IsPlace self.now to result }
+    {
+        for place in 0..self.counts.len() {
+            if self.counts[place].0 == to {
+                return Some(place);
+            }
+        }
+        None
+    }
+
+    /// The number of the next parcel to a receiver, from 0; it is put, so the numbers are raised. It fails only where memory is refused
+    /// or 2^64 - 1 parcels were put to the receiver.
+    pub(crate) fn next(&mut self, to: ReplicaId) -> Result<u64, NoMemory>
+        ensures number { IfOk result (λ number. number ≡ number_in self.old to) }
+        ensures raised { OnOk result (self.new ≡ raised self.old to) }
+    {
+        match self.place(to) {
+            Some(place) => {
+                let number = self.counts[place].1;
+                self.counts[place].1 = number.checked_add(1).ok_or(NoMemory)?;
+                Ok(number)
+            }
+            None => {
+                self.counts.push((to, 1))?;
+                Ok(0)
+            }
+        }
+    }
+}

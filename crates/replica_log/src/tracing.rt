@@ -1,0 +1,77 @@
+//! The parcels of a whole journal.
+ghost use Rattle.std.specs.Prelude.{◌≡◌, ◌++◌, OnOk, IfOk, IsTrue};
+ghost use Rattle.fab_rules.specs.Format.{fits};
+ghost use Rattle.fab_rules.specs.Spelling.{spelling_of};
+ghost use Rattle.run_words.specs.Journal as journals;
+ghost use Rattle.run_words.specs.Journal.{Maker, tick_by};
+ghost use Rattle.replica_log.specs.Posting.{numbered, raised_by, AreSpelled, IsSpelled};
+
+use crate::numbering::Numbers;
+use crate::posting::prepare;
+use bft_msg::encode;
+use fab_base::{Item, NoMemory};
+use run_words::{Entry, Origin, Parcels};
+use std::alloc::Global;
+
+/// The clock after something is heard of this origin: above the time of a parcel. It fails only where that time is the last value of a
+/// `u64`.
+pub(crate) fn tick(clock: u64, origin: Origin) -> Result<u64, NoMemory>
+    ensures { IfOk result (λ ticked. ticked ≡ tick_by clock origin) }
+{
+    match origin {
+        Origin::Client(_) => Ok(clock),
+        Origin::Replica { time, .. } => Ok(clock.max(time.checked_add(1).ok_or(NoMemory)?)),
+    }
+}
+
+/// What was put so far, with the clock and the numbers.
+#[derive(Drop)]
+struct Walk {
+    clock: u64,
+    numbers: Numbers,
+    parcels: Parcels,
+}
+
+impl Walk {
+    /// Puts the parcels of an item.
+    fn put(&mut self, alloc: Global, item: &Item) -> Result<(), NoMemory>
+        requires { IsTrue (fits item.now.message) }
+        ensures clock { self.new.clock ≡ self.old.clock }
+        ensures numbers { OnOk result (self.new.numbers ≡ raised_by self.old.numbers item.now.to) }
+        ensures parcels { OnOk result (self.new.parcels ≡ self.old.parcels ++ numbered self.old.numbers self.old.clock (spelling_of item.now.message) item.now.to) }
+    {
+        let bytes = encode(alloc, &item.message)?;
+        let prepared = prepare(
+            alloc,
+            &self.numbers,
+            self.clock,
+            bytes.as_slice(),
+            0,
+            item.to.as_slice(),
+        )?;
+        let mut sent = prepared.send(&mut self.numbers, &[]);
+        self.parcels.append(&mut sent)?;
+        Ok(())
+    }
+}
+
+/// What a journal's items put, in order, each of which has a spelling: it doesn't depend on what the replica was made with. It fails only
+/// where memory is refused, 2^64 - 1 parcels were put to a receiver, or a parcel was heard whose time is the last value of a `u64`.
+pub(crate) fn parcels_of(alloc: Global, journal: &[Entry]) -> Result<Parcels, NoMemory>
+    requires { AreSpelled journal.now }
+    ensures { IfOk result (λ parcels. (m : Maker) → parcels ≡ journals.parcels_of m journal.now) }
+{
+    let mut walk = Walk {
+        clock: 0,
+        numbers: Numbers::new(alloc),
+        parcels: Parcels::new(alloc),
+    };
+    for entry in journal {
+        match entry {
+            Entry::Heard(origin, _) => walk.clock = tick(walk.clock, *origin)?,
+            Entry::Sent(item) => walk.put(alloc, item)?,
+            Entry::Proposed | Entry::Nudged | Entry::Executed => {}
+        }
+    }
+    Ok(walk.parcels)
+}
