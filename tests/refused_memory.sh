@@ -1,6 +1,7 @@
 #!/usr/bin/env bash
-# Refuses each allocation of the program in turn, on a script of five requests and on one whose table has entries: it has to end with
-# status 10 and nothing written, or with the right report. Outside the gate: it needs a C compiler, for the allocator that refuses.
+# Refuses each allocation of the program in turn: of `plain` on a script of five requests and on one whose table has entries, and of `sim`
+# on one put in a cluster of one replica. It has to end with status 10 and nothing written, or with the right report. Outside the gate: it
+# needs a C compiler, for the allocator that refuses.
 set -u
 top=$(cd "$(dirname "${BASH_SOURCE[0]}")/.." && pwd)
 work=$(mktemp -d)
@@ -67,14 +68,15 @@ passed=0
 failed=0
 for backend in llvm rattle; do
   program=$("$top/tests/program.sh" "$backend") || exit 1
-  for name in first_steps settlement_day; do
+  for name in first_steps settlement_day one_put; do
     script=$top/examples/$name.script
+    word=$(cat "$top/examples/$name.words")
     rm -f "$work/calls"
-    CALLS=$work/calls LD_PRELOAD=$work/refuse.so "$program" plain <"$script" >/dev/null
+    CALLS=$work/calls LD_PRELOAD=$work/refuse.so "$program" "$word" <"$script" >/dev/null
     calls=$(cat "$work/calls" 2>/dev/null || echo 0)
     refusals=0
     for ((n = 1; n <= calls + 1; n++)); do
-      REFUSE=$n LD_PRELOAD=$work/refuse.so "$program" plain <"$script" >"$work/report" 2>"$work/error"
+      REFUSE=$n LD_PRELOAD=$work/refuse.so "$program" "$word" <"$script" >"$work/report" 2>"$work/error"
       status=$?
       if [ "$status" = 10 ] && [ ! -s "$work/report" ] && [ "$(cat "$work/error")" = "no memory" ]; then
         passed=$((passed + 1))
@@ -83,13 +85,13 @@ for backend in llvm rattle; do
         passed=$((passed + 1))
       else
         failed=$((failed + 1))
-        echo "failed: allocation $n of $name refused, by $backend: status $status"
+        echo "failed: allocation $n of $word on $name refused, by $backend: status $status"
       fi
     done
-    echo "$name by $backend: $calls allocations, $refusals ended without memory"
+    echo "$word on $name by $backend: $calls allocations, $refusals ended without memory"
     if [ "$refusals" = 0 ]; then
       failed=$((failed + 1))
-      echo "failed: nothing was refused of $name by $backend"
+      echo "failed: nothing was refused of $word on $name by $backend"
     fi
   done
 done
