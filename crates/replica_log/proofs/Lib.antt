@@ -1,2 +1,4 @@
 pub mod Following
 pub mod Numbered
+pub mod Raising
+pub mod Ending

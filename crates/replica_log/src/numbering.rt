@@ -20,6 +20,18 @@ impl Model for Numbers {
     ghost view = { λ numbers. numbers.counts.items };
 }
 
+/// Where a receiver is listed.
+fn place_of(counts: &[(ReplicaId, u64)], to: ReplicaId) -> Option<usize>
+    ensures { IsPlace counts.now to result }
+{
+    for place in 0..counts.len() {
+        if counts[place].0 == to {
+            return Some(place);
+        }
+    }
+    None
+}
+
 impl Numbers {
     /// Of no parcels. Takes no memory.
     pub(crate) fn new(alloc: Global) -> Numbers
@@ -39,25 +51,13 @@ impl Numbers {
         })
     }
 
-    /// Where a receiver is listed.
-    fn place(&self, to: ReplicaId) -> Option<usize>
-        ensures { IsPlace self.now to result }
-    {
-        for place in 0..self.counts.len() {
-            if self.counts[place].0 == to {
-                return Some(place);
-            }
-        }
-        None
-    }
-
     /// The number of the next parcel to a receiver, from 0; it is put, so the numbers are raised. It fails only where memory is refused
     /// or 2^64 - 1 parcels were put to the receiver.
-    pub(crate) fn next(&mut self, to: ReplicaId) -> Result<u64, NoMemory>
+    pub(crate) fn raise(&mut self, to: ReplicaId) -> Result<u64, NoMemory>
         ensures number { IfOk result (λ number. number ≡ number_in self.old to) }
         ensures raised { OnOk result (self.new ≡ raised self.old to) }
     {
-        match self.place(to) {
+        match place_of(&self.counts, to) {
             Some(place) => {
                 let number = self.counts[place].1;
                 self.counts[place].1 = number.checked_add(1).ok_or(NoMemory)?;

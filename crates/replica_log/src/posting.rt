@@ -78,7 +78,7 @@ pub(crate) fn prepare(
     for receiver in to {
         parcels.push(Parcel {
             to: *receiver,
-            number: after.next(*receiver)?,
+            number: after.raise(*receiver)?,
             time,
             bytes: with_room(alloc, front, room)?,
             passes: 1,
