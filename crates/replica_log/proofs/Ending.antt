@@ -1,7 +1,7 @@
 -- Parcels whose last bytes are written last.
-use Rattle.std.proofs.Common.{◌≡◌, ℕ, ◌+◌, ◌-◌, ◌≤◌, List, [], ◌∷◌, ◌++◌, map, take, drop, length, replicate, inl, inr, refl, sym, ap, subst, ◌∙◌, arith, append-nil, length-append}
-use Rattle.std.proofs.lemmas.List.{length-replicate, drop_all}
-use Rattle.std.proofs.Math.Seq.{take-append_seam}
+use Rattle.std.proofs.Common.{◌≡◌, ℕ, zero, suc, ◌+◌, ◌-◌, ◌<◌, ◌≤◌, List, [], ◌∷◌, ◌++◌, map, take, drop, length, get_or, set, replicate, inl, inr, refl, sym, ap, subst, ◌∙◌, arith, append-nil, append_assoc, length-append}
+use Rattle.std.proofs.lemmas.List.{length-replicate, length-map, length-take-le, map-append, drop_all, drop_more, take_more, set_at}
+use Rattle.std.proofs.Math.Seq.{take-append_seam, get_or-append_seam}
 use Rattle.fab_base.specs.declared.ids.ReplicaId.{ReplicaId}
 use Rattle.fab_rules.specs.Lists.{In}
 use Rattle.run_words.specs.declared.logs.Parcel.{Parcel}
@@ -44,3 +44,44 @@ pub all_made : (counts : Counts) (time : ℕ) (bytes : List ℕ) (to : List Repl
     → whole ≡ made ++ numbered counts time bytes (drop k to) → made ≡ whole
 all_made counts time bytes to k made whole le h =
     sym (h ∙ ap (λ (l : List ReplicaId). made ++ numbered counts time bytes l) (drop_all k to le) ∙ append-nil made)
+
+-- ---- a loop that writes each item of a list
+
+abbrev pub IsWritten : {X : Type 0} → (X → X) → List X → ℕ → List X → Type 0
+IsWritten f old k now = now ≡ map f (take k old) ++ drop k old
+
+written_length : {X : Type 0} (f : X → X) (old : List X) (k : ℕ) → k < length old → length (map f (take k old)) ≡ k
+written_length f old k lt = length-map (take k old) f ∙ length-take-le k old (omega arith)
+
+written_split : {X : Type 0} (f : X → X) (old now : List X) (k : ℕ) (d : X) → k < length old → IsWritten f old k now
+    → now ≡ map f (take k old) ++ get_or old k d ∷ drop (k + 1) old
+written_split f old now k d lt h = h ∙ ap (λ l. map f (take k old) ++ l) (drop_more old k d lt)
+
+-- the next item is as it was
+pub unwritten : {X : Type 0} (f : X → X) (old now : List X) (k : ℕ) (d : X) → k < length old → IsWritten f old k now
+    → get_or now k d ≡ get_or old k d
+unwritten f old now k d lt h =
+    ap (λ l. get_or l k d) (written_split f old now k d lt h)
+    ∙ ap (λ n. get_or (map f (take k old) ++ get_or old k d ∷ drop (k + 1) old) n d) (sym (written_length f old k lt))
+    ∙ get_or-append_seam (map f (take k old)) (get_or old k d) (drop (k + 1) old) d
+
+pub written_more : {X : Type 0} (f : X → X) (old now : List X) (k : ℕ) (d y : X) → k < length old → IsWritten f old k now → y ≡ f (get_or now k d)
+    → IsWritten f old (k + 1) (set now k y)
+written_more f old now k d y lt h e =
+    let x = get_or old k d in
+    ap (λ l. set l k y) (written_split f old now k d lt h)
+    ∙ set_at (map f (take k old)) x (drop (k + 1) old) y k (written_length f old k lt)
+    ∙ ap (λ z. map f (take k old) ++ z ∷ drop (k + 1) old) (e ∙ ap f (unwritten f old now k d lt h))
+    ∙ sym (append_assoc (map f (take k old)) (f x ∷ []) (drop (k + 1) old))
+    ∙ ap (λ l. l ++ drop (k + 1) old) (sym (map-append f (take k old) (x ∷ [])) ∙ ap (map f) (sym (take_more old k d lt)))
+
+pub in_at : {X : Type 0} (l : List X) (k : ℕ) (d : X) → k < length l → In (get_or l k d) l
+in_at [] k d lt = absurd (omega arith)
+in_at (x ∷ l) zero d lt = inl refl
+in_at (x ∷ l) (suc k) d lt = inr (in_at l k d (omega arith))
+
+pub room_at : (room : ℕ) (old now : List Parcel) (f : Parcel → Parcel) (k : ℕ) (d : Parcel) → k < length old → IsWritten f old k now
+    → HaveRoom room old
+    → room ≤ length (get_or now k d).bytes
+room_at room old now f k d lt h have =
+    subst (λ (q : Parcel). room ≤ length q.bytes) (sym (unwritten f old now k d lt h)) (have (get_or old k d) (in_at old k d lt))

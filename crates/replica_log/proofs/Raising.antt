@@ -25,18 +25,21 @@ found_at : (counts : Counts) (i : ReplicaId) (k : ℕ) (c : ReplicaId × ℕ) �
     → is_same i c.0 ≡ true
     → (number_in counts i ≡ c.1) × (raised counts i ≡ set counts k (c.0, c.1 + 1))
 found_at counts i k c lt front later s =
-    let rest = drop (k + 1) counts in
-    (later.0 ∙ ap (λ (l : Counts). number_in l i) front ∙ ap (number_by c rest i) s,
-    later.1 ∙ ap (λ (l : Counts). take k counts ++ raised l i) front ∙ ap (λ (b : Bool). take k counts ++ raised_at c rest i b) s
-    ∙ ap (λ (n : ℕ). take k counts ++ (c.0, c.1 + 1) ∷ drop n counts) (add-one k) ∙ sym (set_split counts k (c.0, c.1 + 1) lt))
+    let rest = drop (k + 1) counts in (
+      later.0 ∙ ap (λ (l : Counts). number_in l i) front ∙ ap (number_by c rest i) s,
+      later.1 ∙ ap (λ (l : Counts). take k counts ++ raised l i) front ∙ ap (λ (b : Bool). take k counts ++ raised_at c rest i b) s
+          ∙ ap (λ (n : ℕ). take k counts ++ (c.0, c.1 + 1) ∷ drop n counts) (add-one k) ∙ sym (set_split counts k (c.0, c.1 + 1) lt),
+    )
 
 pub is_found : (counts : Counts) (i : ReplicaId) (k : ℕ) (d : ReplicaId × ℕ) → k < length counts → IsLater counts i k
     → true ≡ (((get_or counts k d).0.cluster == i.cluster) && ((get_or counts k d).0.index == i.index))
     → IsPlace counts i (Some k)
-is_found counts i k d lt later e =
-    (lt, λ c h. (let same : get_or counts k d ≡ c = get_or_default counts k d c lt ∙ h in
+is_found counts i k d lt later e = (
+  lt,
+  λ c h. (let same : get_or counts k d ≡ c = get_or_default counts k d c lt ∙ h in
       subst (λ (y : ReplicaId × ℕ). (number_in counts i ≡ y.1) × (raised counts i ≡ set counts k (y.0, y.1 + 1))) same
-      (found_at counts i k (get_or counts k d) lt (drop_more counts k d lt) later (same_turned _ _ (same_if (get_or counts k d).0 i true e)))))
+      (found_at counts i k (get_or counts k d) lt (drop_more counts k d lt) later (same_turned _ _ (same_if (get_or counts k d).0 i true e)))),
+)
 
 pub is_passed : (counts : Counts) (i : ReplicaId) (k : ℕ) (d : ReplicaId × ℕ) → k < length counts → IsLater counts i k
     → false ≡ (((get_or counts k d).0.cluster == i.cluster) && ((get_or counts k d).0.index == i.index))
@@ -45,14 +48,16 @@ is_passed counts i k d lt later e =
     let c = get_or counts k d in
     let s = other_turned _ _ (same_if c.0 i false e) in
     let front = drop_more counts k d lt in
-    let rest = drop (k + 1) counts in
-    (later.0 ∙ ap (λ (l : Counts). number_in l i) front ∙ ap (number_by c rest i) s,
-    later.1 ∙ ap (λ (l : Counts). take k counts ++ raised l i) front ∙ ap (λ (b : Bool). take k counts ++ raised_at c rest i b) s
-    ∙ sym (append_assoc (take k counts) (c ∷ []) (raised rest i))
-    ∙ ap (λ (l : Counts). l ++ raised rest i) (sym (take_more counts k d lt)))
+    let rest = drop (k + 1) counts in (
+      later.0 ∙ ap (λ (l : Counts). number_in l i) front ∙ ap (number_by c rest i) s,
+      later.1 ∙ ap (λ (l : Counts). take k counts ++ raised l i) front ∙ ap (λ (b : Bool). take k counts ++ raised_at c rest i b) s
+          ∙ sym (append_assoc (take k counts) (c ∷ []) (raised rest i))
+          ∙ ap (λ (l : Counts). l ++ raised rest i) (sym (take_more counts k d lt)),
+    )
 
 pub is_missing : (counts : Counts) (i : ReplicaId) (k : ℕ) → length counts ≤ k → IsLater counts i k → IsPlace counts i None
 is_missing counts i k le later =
-    let none = drop_all k counts le in
-    (later.0 ∙ ap (λ (l : Counts). number_in l i) none,
-    later.1 ∙ ap (λ (l : Counts). take k counts ++ raised l i) none ∙ ap (λ (l : Counts). l ++ (i, 1) ∷ []) (take_all k counts le))
+    let none = drop_all k counts le in (
+      later.0 ∙ ap (λ (l : Counts). number_in l i) none,
+      later.1 ∙ ap (λ (l : Counts). take k counts ++ raised l i) none ∙ ap (λ (l : Counts). l ++ (i, 1) ∷ []) (take_all k counts le),
+    )

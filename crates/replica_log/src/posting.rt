@@ -1,6 +1,6 @@
 //! Parcels: what is sent, a copy for each receiver.
-ghost use Rattle.std.specs.Prelude.{◌≡◌, ℕ, ◌≤◌, ◌++◌, List, length, replicate, IfOk};
-ghost use Rattle.replica_log.specs.Posting.{numbered, raised_by, ended, ended_parcel, sent_with};
+ghost use Rattle.std.specs.Prelude.{◌≡◌, ℕ, ◌≤◌, ◌++◌, List, length, map, replicate, IfOk};
+ghost use Rattle.replica_log.specs.Posting.{numbered, raised_by, ended, ended_parcel, HaveRoom, sent_with};
 
 use crate::numbering::Numbers;
 use fab_base::{Bytes, NoMemory, ReplicaId};
@@ -58,6 +58,16 @@ fn end(alloc: Global, parcel: &mut Parcel, back: &[u8])
     parcel.bytes = ended(bytes, back);
 }
 
+/// The same of each parcel.
+fn end_all(alloc: Global, parcels: &mut [Parcel], back: &[u8])
+    requires { HaveRoom (length back.now) parcels.old }
+    ensures { parcels.new ≡ map (ended_parcel back.now) parcels.old }
+{
+    for parcel in parcels.iter_mut() {
+        end(alloc, parcel, back);
+    }
+}
+
 /// The parcels of what is to be sent at a time of the replica's clock: a copy for each receiver, in order, of these bytes and so many
 /// more that are still open. All memory is taken for them, and the numbers stay until they are sent. It fails only where memory is
 /// refused or 2^64 - 1 parcels were put to a receiver.
@@ -105,9 +115,7 @@ impl Prepared {
             numbers: after,
             ..
         } = self;
-        for parcel in parcels.iter_mut() {
-            end(alloc, parcel, back);
-        }
+        end_all(alloc, &mut parcels, back);
         *numbers = after;
         Parcels::from_vec(parcels)
     }
