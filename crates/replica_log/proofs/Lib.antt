@@ -2,3 +2,4 @@ pub mod Following
 pub mod Numbered
 pub mod Raising
 pub mod Ending
+pub mod Tracked

@@ -67,11 +67,17 @@ numbered_is_put counts time bytes earlier (to ∷ rest) h =
     ap (λ (l : List Parcel). p ∷ l) (numbered_is_put (raised counts to) time bytes (earlier ++ p ∷ []) rest (numbers_more counts earlier p h))
     ∙ ap (λ (n : ℕ). put_by time bytes earlier to rest n) (h to)
 
--- the numbers of all, once they are put
-pub numbers_after : (counts : Counts) (time : ℕ) (bytes : List ℕ) (earlier : List Parcel) (to : List ReplicaId) → AreNumbers counts earlier
+numbers_after : (counts : Counts) (time : ℕ) (bytes : List ℕ) (earlier : List Parcel) (to : List ReplicaId) → AreNumbers counts earlier
     → AreNumbers (raised_by counts to) (earlier ++ numbered counts time bytes to)
 numbers_after counts time bytes earlier [] h = subst (AreNumbers counts) (sym (append-nil earlier)) h
 numbers_after counts time bytes earlier (to ∷ rest) h =
     let p = the_parcel counts time bytes to in
     subst (AreNumbers (raised_by (raised counts to) rest)) (append_assoc earlier (p ∷ []) (numbered (raised counts to) time bytes rest))
     (numbers_after (raised counts to) time bytes (earlier ++ p ∷ []) rest (numbers_more counts earlier p h))
+
+-- the numbers of all, once they are put
+pub numbers_put : (counts : Counts) (time : ℕ) (bytes : List ℕ) (earlier : List Parcel) (to : List ReplicaId) → AreNumbers counts earlier
+    → AreNumbers (raised_by counts to) (earlier ++ put time bytes earlier to)
+numbers_put counts time bytes earlier to h =
+    subst (λ (l : List Parcel). AreNumbers (raised_by counts to) (earlier ++ l)) (numbered_is_put counts time bytes earlier to h)
+    (numbers_after counts time bytes earlier to h)

@@ -1,3 +1,4 @@
 pub mod Keeping
 pub mod Logs
 pub mod Posting
+pub mod Walking

@@ -5,6 +5,7 @@ ghost use Rattle.fab_rules.specs.Spelling.{spelling_of};
 ghost use Rattle.run_words.specs.Journal as journals;
 ghost use Rattle.run_words.specs.Journal.{Maker, tick_by};
 ghost use Rattle.replica_log.specs.Posting.{numbered, raised_by, AreSpelled, IsSpelled};
+ghost use Rattle.replica_log.specs.Walking.{walked};
 
 use crate::numbering::Numbers;
 use crate::posting::prepare;
@@ -15,7 +16,7 @@ use std::alloc::Global;
 
 /// The clock after something is heard of this origin: above the time of a parcel. It fails only where that time is the last value of a
 /// `u64`.
-pub(crate) fn tick(clock: u64, origin: Origin) -> Result<u64, NoMemory>
+fn tick(clock: u64, origin: Origin) -> Result<u64, NoMemory>
     ensures { IfOk result (λ ticked. ticked ≡ tick_by clock origin) }
 {
     match origin {
@@ -33,7 +34,7 @@ struct Walk {
 }
 
 impl Walk {
-    /// Puts the parcels of an item.
+    /// Puts the parcels of an item, which has a spelling.
     fn put(&mut self, alloc: Global, item: &Item) -> Result<(), NoMemory>
         requires { IsTrue (fits item.now.message) }
         ensures clock { self.new.clock ≡ self.old.clock }
@@ -53,6 +54,19 @@ impl Walk {
         self.parcels.append(&mut sent)?;
         Ok(())
     }
+
+    /// Goes on by an entry.
+    fn step(&mut self, alloc: Global, entry: &Entry) -> Result<(), NoMemory>
+        requires { IsSpelled entry.now }
+        ensures { OnOk result (self.new ≡ walked self.old entry.now) }
+    {
+        match entry {
+            Entry::Heard(origin, _) => self.clock = tick(self.clock, *origin)?,
+            Entry::Sent(item) => self.put(alloc, item)?,
+            Entry::Proposed | Entry::Nudged | Entry::Executed => {}
+        }
+        Ok(())
+    }
 }
 
 /// What a journal's items put, in order, each of which has a spelling: it doesn't depend on what the replica was made with. It fails only
@@ -67,11 +81,7 @@ pub(crate) fn parcels_of(alloc: Global, journal: &[Entry]) -> Result<Parcels, No
         parcels: Parcels::new(alloc),
     };
     for entry in journal {
-        match entry {
-            Entry::Heard(origin, _) => walk.clock = tick(walk.clock, *origin)?,
-            Entry::Sent(item) => walk.put(alloc, item)?,
-            Entry::Proposed | Entry::Nudged | Entry::Executed => {}
-        }
+        walk.step(alloc, entry)?;
     }
     Ok(walk.parcels)
 }
