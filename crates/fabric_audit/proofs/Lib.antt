@@ -1,0 +1,11 @@
+pub mod Prefixes
+pub mod LastStamps
+pub mod Lines
+pub mod Ledgers
+pub mod Served
+pub mod Sums
+pub mod Members
+pub mod Copies
+pub mod Quiet
+pub mod Stillness
+pub mod Settled

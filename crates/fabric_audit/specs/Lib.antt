@@ -1,0 +1,4 @@
+pub mod Replayed
+pub mod Stamps
+pub mod Counts
+pub mod Still

@@ -5,7 +5,11 @@
 #![tactic(auto)]
 
 mod auditing;
+mod cores;
+mod counting;
+mod effects;
 mod ending;
+mod settling;
 
 pub use auditing::audit;
 pub use ending::end_of;

@@ -1,0 +1,39 @@
+-- What the requests of a script came to, ledger by ledger.
+use Rattle.std.proofs.Common.{◌≡◌, ℕ, ◌+◌, ◌<◌, ◌&&◌, List, length, take, get_or, sym, ap, ◌∙◌}
+use Rattle.std.specs.List.{All, prefix_len, slice_get}
+use Rattle.std.proofs.lemmas.List.Folds.{list_all_more}
+use Rattle.fault_script.specs.declared.scripts.Script.{Script}
+use Rattle.run_words.specs.declared.logs.Trace.{Trace}
+use Rattle.run_words.specs.declared.logs.Transcript.{Transcript}
+use Rattle.run_worlds.specs.Scripts.{makers_of}
+use Rattle.run_worlds.specs.Endings.{IsRunOf, is_effective, first_missing}
+use Rattle.fabric_audit.specs.Replayed.{IsReplayable}
+use Rattle.fabric_audit.specs.Stamps.{stamps_of, is_served, is_served_in, served_by}
+use Rattle.fabric_audit.proofs.Prefixes.{both_pass, same_pass, first_not}
+use Rattle.fabric_audit.proofs.Ledgers.{all_of, all_replayable, effective}
+
+-- the ledger of a replica more
+pub served_more : (script : Script) (traces : List Trace) (i : ℕ) (t : Trace) (stamps : List ℕ) (count now : ℕ) → i < length traces
+    → t ≡ get_or traces i t → stamps ≡ stamps_of script t → count ≡ prefix_len (served_by script (take i traces)) script.requests
+    → now ≡ prefix_len (is_served stamps) (take count script.requests)
+    → now ≡ prefix_len (served_by script (take (i + 1) traces)) script.requests
+served_more script traces i t stamps count now lt is by before after =
+    after
+    ∙ ap (λ (l : List ℕ). prefix_len (is_served l) (take count script.requests)) by
+    ∙ ap (λ n. prefix_len (is_served (stamps_of script t)) (take n script.requests)) before
+    ∙ both_pass (served_by script (take i traces)) (is_served (stamps_of script t)) script.requests
+    ∙ same_pass (λ w. served_by script (take i traces) w && is_served (stamps_of script t) w) (served_by script (take (i + 1) traces)) script.requests
+    (λ w h. ap (λ (u : Trace). served_by script (take i traces) w && is_served_in script w u) is
+    ∙ sym (list_all_more (is_served_in script w) traces i t lt))
+
+-- the first request that didn't take effect in each ledger
+pub missing_is : (t : Transcript) (count : ℕ) → IsRunOf t.script t → count ≡ prefix_len (served_by t.script t.traces) t.script.requests
+    → slice_get t.script.requests count ≡ first_missing t
+missing_is t count run is =
+    ap (slice_get t.script.requests)
+    (is ∙ same_pass (served_by t.script t.traces) (is_effective t) t.script.requests
+    (λ w h. effective t.script w (makers_of t.script) t.traces run.limits h (all_of t.script) run.lawful.kept))
+    ∙ first_not (is_effective t) t.script.requests
+
+pub run_replayable : (t : Transcript) → IsRunOf t.script t → All (IsReplayable t.script) t.traces
+run_replayable t run = all_replayable t.script (makers_of t.script) t.traces (all_of t.script) run.lawful.kept

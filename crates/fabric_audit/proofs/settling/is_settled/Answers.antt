@@ -1,0 +1,25 @@
+use Rattle.std.proofs.Common.{◌==◌, sym, ap, subst, ◌∙◌}
+use Rattle.std.specs.List.{All, list_all}
+use Rattle.fabric_audit.specs.Counts.{all_taken, all_put}
+use Rattle.fabric_audit.specs.Replayed.{IsReplayable}
+use Rattle.fabric_audit.specs.Still.{is_still}
+use Rattle.fabric_audit.proofs.Served.{run_replayable}
+use Rattle.fabric_audit.proofs.Settled.{decided, undelivered}
+use Rattle.fabric_audit.proofs.settling.is_settled.Goals as goal
+
+pub are_still-requires-clause-kept : goal.are_still-requires-clause-kept
+are_still-requires-clause-kept c =
+    subst (All (IsReplayable c.args.transcript.now.script)) (sym c.as_slice-traces.ensures) (run_replayable c.args.transcript.now c.requires)
+
+pub returns-in_ok-are_still : goal.returns-in_ok-are_still
+returns-in_ok-are_still c =
+    let t = c.args.transcript.now in
+    decided t c.requires c.in_ok-all_taken.field-0 c.in_ok-are_still.field-0
+    (c.in_ok-all_taken.ensures ∙ ap (λ l. all_taken l == all_put t.script l) c.as_slice-traces.ensures) c.if-branch.true
+    (c.in_ok-are_still.ensures ∙ ap (list_all (is_still t.script)) c.as_slice-traces.ensures)
+
+pub returns-else-branch : goal.returns-else-branch
+returns-else-branch c =
+    let t = c.args.transcript.now in
+    undelivered t c.requires c.in_ok-all_taken.field-0
+    (c.in_ok-all_taken.ensures ∙ ap (λ l. all_taken l == all_put t.script l) c.as_slice-traces.ensures) c.if-branch.false

@@ -1,0 +1,123 @@
+//! Whether anything still moves.
+//!
+//! Nothing moves where each replica has heard or refused whatever was put to it, and no event would make an entry at any. A replica never
+//! takes more copies than were put to it, so all are taken where all replicas together took as many as were put.
+ghost use Rattle.std.specs.Prelude.{◌≡◌, ◌==◌, ◌&&◌, ◌↔◌, true, nat_le, length, IfOk, IsTrue};
+ghost use Rattle.std.specs.List.{All, list_all};
+ghost use Rattle.fab_base.specs.declared.ids.ReplicaId.{ReplicaId};
+ghost use Rattle.fab_base.specs.declared.ids.Who.{Who};
+ghost use Rattle.fab_rules.specs.Statements.{signer_of};
+ghost use Rattle.fab_machine.specs.Items.{is_own};
+ghost use Rattle.fab_machine.specs.Step.{first};
+ghost use Rattle.fault_script.specs.Scripts.{keeps_limits};
+ghost use Rattle.run_words.specs.Journal.{needs_leaf};
+ghost use Rattle.script_keys.specs.Keys.{leaves_of};
+ghost use Rattle.run_worlds.specs.Endings.{IsRunOf, IsSettled};
+ghost use Rattle.fabric_audit.specs.Replayed.{IsReplayable};
+ghost use Rattle.fabric_audit.specs.Counts.{all_taken, all_put};
+ghost use Rattle.fabric_audit.specs.Still.{is_still_at, is_still};
+
+use crate::cores::core_of;
+use crate::counting::{copies, plus, sent_by_all, taken};
+use fab_base::{Message, NoMemory, ReplicaId};
+use fault_script::Script;
+use lms_tree::Height;
+use replica_core::{Core, Mover};
+use run_words::{Trace, Transcript};
+use run_worlds::script_members;
+use std::alloc::Global;
+
+/// Whether the replica itself signs the message.
+fn signs(replica: ReplicaId, message: &Message) -> bool
+    ensures { result ≡ is_own replica (signer_of message.now) }
+{
+    match message {
+        Message::PrePrepare(x) => x.signer == replica,
+        Message::Prepare(x) | Message::Commit(x) => x.signer == replica,
+        Message::Checkpoint(x) => x.signer == replica,
+        Message::ViewChange(x) => x.signer == replica,
+        Message::NewView(x) => x.signer == replica,
+        Message::Drvc(x) | Message::Rvc(x) => x.signer == replica,
+        Message::ReplyNote(x) => x.signer == replica,
+        Message::Request(_) | Message::Share(_) | Message::Fetch(_) => false,
+    }
+}
+
+/// How many signatures the key of a replica gives.
+fn leaves(script: &Script) -> u32
+    ensures { (i : ReplicaId) → result ≡ leaves_of script.now (Who.Replica i) }
+{
+    let height = if script.height == 5 {
+        Height::H5
+    } else {
+        Height::H10
+    };
+    height.leaf_count()
+}
+
+/// Whether the first item that waits is to be signed by this replica.
+fn needs_leaf(replica: ReplicaId, core: &Core) -> bool
+    ensures { result ≡ needs_leaf replica (first core.now.state) }
+{
+    match core.first() {
+        Some(item) => signs(replica, &item.message),
+        None => false,
+    }
+}
+
+/// Whether no event would make an entry at a replica with so many leaves, of which it used so many.
+fn is_still_at(replica: ReplicaId, core: &Core, leaves: u64, used: u64) -> bool
+    ensures { result ≡ is_still_at replica core.now leaves used }
+{
+    !core.moves(Mover::Batch)
+        && !core.moves(Mover::Nudge)
+        && !core.moves(Mover::Execute)
+        && (!core.moves(Mover::Emit) || (needs_leaf(replica, core) && leaves <= used))
+}
+
+/// Whether no event would make an entry at the replica that left this trace.
+fn is_still(alloc: Global, script: &Script, trace: &Trace) -> Result<bool, NoMemory>
+    requires limits { keeps_limits script.now ≡ true }
+    requires kept { IsReplayable script.now trace.now }
+    ensures { IfOk result (λ still. still ≡ is_still script.now trace.now) }
+{
+    let core = core_of(alloc, script, trace)?;
+    let leaves = leaves(script) as u64;
+    Ok(is_still_at(trace.id, &core, leaves, trace.signed.len() as u64))
+}
+
+/// Whether no event would make an entry at any of the replicas.
+fn are_still(alloc: Global, script: &Script, traces: &[Trace]) -> Result<bool, NoMemory>
+    requires limits { keeps_limits script.now ≡ true }
+    requires kept { All (IsReplayable script.now) traces.now }
+    ensures { IfOk result (λ still. still ≡ list_all (is_still script.now) traces.now) }
+{
+    for trace in traces {
+        if !is_still(alloc, script, trace)? {
+            return Ok(false);
+        }
+    }
+    Ok(true)
+}
+
+/// Whether as many copies were taken as were put.
+fn all_taken(alloc: Global, script: &Script, traces: &[Trace]) -> Result<bool, NoMemory>
+    requires { keeps_limits script.now ≡ true }
+    ensures { IfOk result (λ all. all ≡ (all_taken traces.now == all_put script.now traces.now)) }
+{
+    let members = script_members(alloc, script)?;
+    let asked = copies(&members, script.requests.as_slice())?;
+    let put = plus(asked, sent_by_all(&members, traces)?)?;
+    Ok(taken(traces)? == put)
+}
+
+/// Whether nothing moves any more: all that was put is heard or refused, and no event would make an entry. It fails only where memory is
+/// refused.
+pub(crate) fn is_settled(alloc: Global, transcript: &Transcript) -> Result<bool, NoMemory>
+    requires { IsRunOf transcript.now.script transcript.now }
+    ensures { IfOk result (λ settled. IsTrue settled ↔ IsSettled transcript.now) }
+{
+    let script = &transcript.script;
+    let traces = transcript.traces.as_slice();
+    Ok(all_taken(alloc, script, traces)? && are_still(alloc, script, traces)?)
+}
