@@ -3,6 +3,7 @@ use crate::told::Told;
 use fab_io::{Got, MemSink, MemSource, ReadSource, Sink, Source, Sunk, WriteSink};
 use fab_rows::{NoMemory, Numbers, Rows};
 use fabric_run::fabric;
+use run_words::Transcript;
 use std::alloc::Global;
 
 /// The device that calls speak of.
@@ -127,7 +128,14 @@ impl Bench {
         }
         let mut script = source(alloc, self.script.as_slice().to_vec(alloc)?, reads)?;
         let mut report = sink(alloc, 10_000, writes)?;
-        let exit = fabric(alloc, spelled.as_slice(), &mut script, &mut report);
+        let mut kept = Transcript::empty(alloc);
+        let exit = fabric(
+            alloc,
+            spelled.as_slice(),
+            &mut script,
+            &mut report,
+            &mut kept,
+        );
         self.device = Device::Sink(report);
         format!(in alloc; "{exit:?}")
     }

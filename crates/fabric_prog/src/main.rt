@@ -3,6 +3,7 @@
 
 use fab_io::{ReadSource, WriteSink};
 use fabric_run::{Exit, fabric};
+use run_words::Transcript;
 use std::fmt::{Display, Formatter, Write};
 use std::io::ErrorKind;
 use std::process::ExitCode;
@@ -51,7 +52,14 @@ fn run(rt: &HostRuntime) -> Exit {
     };
     let mut script = ReadSource::of(rt.reader());
     let mut report = WriteSink::of(io::writer(rt));
-    fabric(rt.alloc(), words.as_slice(), &mut script, &mut report)
+    let mut kept = Transcript::empty(rt.alloc());
+    fabric(
+        rt.alloc(),
+        words.as_slice(),
+        &mut script,
+        &mut report,
+        &mut kept,
+    )
 }
 
 fn main(rt: HostRuntime) -> ExitCode {

@@ -1,5 +1,5 @@
 -- What follows from the exit of a run: which exits are left where a cause is given.
-use Rattle.std.proofs.Common.{◌≡◌, ℕ, ◌+◌, ◌<◌, ◌≤◌, List, length, Some, None, Ok, Err, inl, inr, refl, ap, subst, ◌∙◌, arith, length-append}
+use Rattle.std.proofs.Common.{◌≡◌, ℕ, ◌+◌, ◌<◌, ◌≤◌, List, length, Some, None, Ok, Err, inl, inr, refl, sym, ap, subst, ◌∙◌, arith, length-append}
 use Rattle.std.specs.Prelude.{Option, IfSome, Result}
 use Rattle.std.specs.Io.KnownBytes.{Keeps, Consumes}
 use Rattle.fab_io.specs.Devices.{Supply}
@@ -10,7 +10,7 @@ use Rattle.fabric_run.specs.declared.transfer.TheConstants.{SCRIPT_BYTES}
 use Rattle.fabric_run.specs.declared.exits.Exit.{Exit}
 use Rattle.fabric_run.specs.declared.exits.Exit.TheVariants.{Done, Usage, ReadFault, WriteFault, TooLong, BadScript, Stalled, Spent, Broken, NoMemory}
 use Rattle.fabric_run.specs.Transfer.{WasRead, GaveSome, GaveTooMany}
-use Rattle.fabric_run.specs.Exits.{Seen, GaveScript, Stops, WroteAll, Ends, IsTooLong, Completes, NamesBad, IsRun}
+use Rattle.fabric_run.specs.Exits.{Seen, GaveScript, Stops, HandsOver, WroteAll, Ends, IsTooLong, Completes, NamesBad, IsRun}
 
 -- an exit at which nothing is written
 pub stopped : (makes : Script → Exit → List ℕ → Type 0) (old new : Seen) (exit : Exit) → Stops old.source new.source exit → Keeps old.sink.taken new.sink.taken → Ends makes old new exit
@@ -24,6 +24,17 @@ stopped makes old new TooLong s kept = (s, kept)
 stopped makes old new (BadScript bad) s kept = (s, kept)
 stopped makes old new NoMemory s kept = (s, kept)
 stopped makes old new Usage s kept = absurd s
+
+-- ---- a text that is handed over
+
+-- a text and its exit that the command makes of the script that was read, by how handing it over ends
+pub handed : (makes : Script → Exit → List ℕ → Type 0) (old new : Seen) (script : Script) (wanted : Exit) (text : List ℕ) (exit : Exit)
+    → GaveScript old.source new.source script → makes script wanted text → (WroteAll makes old new wanted → Ends makes old new wanted)
+    → HandsOver old.sink new.sink text wanted exit → Ends makes old new exit
+handed makes old new script wanted text exit gave made all (inl done) =
+    subst (Ends makes old new) (sym done.0) (all (script, gave, (text, made, done.1)))
+handed makes old new script wanted text exit gave made all (inr failed) =
+    subst (Ends makes old new) (sym failed.1) (failed.2.2, (script, gave, (wanted, (text, made, failed.2.0, failed.2.1))))
 
 -- ---- the number of bytes given
 

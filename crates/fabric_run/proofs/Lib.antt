@@ -1,3 +1,4 @@
 pub mod Endings
 pub mod Limits
+pub mod Simulations
 pub mod Transfers

@@ -8,7 +8,7 @@ use Rattle.fault_script.specs.Scripts.{script_of}
 use Rattle.fabric_run.specs.declared.transfer.TheConstants.{SCRIPT_BYTES}
 use Rattle.fabric_run.specs.declared.exits.Exit.{Exit}
 use Rattle.fabric_run.specs.declared.exits.Exit.TheVariants.{Usage, ReadFault, WriteFault, TooLong, BadScript, NoMemory}
-use Rattle.fabric_run.specs.Transfer.{WasRead, GaveSome, GaveTooMany}
+use Rattle.fabric_run.specs.Transfer.{WasRead, GaveSome, GaveTooMany, WriteEnds}
 
 -- what a run has seen of its two devices, at one moment
 pub record Seen : Type 0 where
@@ -34,6 +34,11 @@ Stops old new (BadScript bad) = (bytes : List ℕ) × WasRead old new bytes × (
 Stops old new NoMemory = GaveSome old new
 -- at any other exit something is written, or nothing is read
 Stops old new exit = ⊥
+
+-- how handing over a text ends that goes with an exit: with all of it taken, or at a write that fails with a front part of it taken
+abbrev pub HandsOver : Intake → Intake → List ℕ → Exit → Exit → Type 0
+HandsOver old new text wanted exit =
+    ((exit ≡ wanted) × WriteEnds old new text (Ok tt)) ⊎ ((written : ℕ) × (exit ≡ WriteFault written) × WriteEnds old new text (Err written))
 
 -- a write failed: the sink took just so many bytes of a text that the command makes of the script that was read, from the front
 abbrev pub WroteSome : (Script → Exit → List ℕ → Type 0) → Seen → Seen → ℕ → Type 0

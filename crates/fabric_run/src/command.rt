@@ -7,6 +7,8 @@ ghost use Rattle.fabric_run.specs.Commands.{command_named, command_of};
 pub enum Command {
     /// Apply a script's requests in order to one table.
     Plain,
+    /// Run a script's replicas to the end.
+    Sim,
 }
 
 /// The command of a word, if it names one.
@@ -15,6 +17,7 @@ fn command_named(word: &str) -> Option<Command>
 {
     match word {
         "plain" => Some(Command::Plain),
+        "sim" => Some(Command::Sim),
         _ => None,
     }
 }

@@ -9,6 +9,7 @@
 mod command;
 mod exits;
 mod sequential;
+mod simulation;
 mod top;
 mod transfer;
 
@@ -17,5 +18,6 @@ pub use exits::Exit;
 pub use fab_base::NoMemory;
 pub use fault_script::{BadScript, Why};
 pub use sequential::plain;
+pub use simulation::simulate_script;
 pub use top::fabric;
 pub use transfer::SCRIPT_BYTES;

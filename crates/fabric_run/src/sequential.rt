@@ -7,7 +7,7 @@ ghost use Rattle.fabric_run.specs.Plain.{request_of, requests_of, plain_text, Pl
 ghost use Rattle.fabric_run.specs.Exits.{seen, Ends, IsRun};
 
 use crate::exits::Exit;
-use crate::transfer::{script_from, write_all};
+use crate::transfer::{hand_over, script_from};
 use fab_base::{Batch, Bytes, NoMemory, Outcomes, Request, Rows};
 use fab_io::{Sink, Source};
 use fault_script::{Script, Wish};
@@ -77,12 +77,7 @@ fn run<S: Source, K: Sink>(alloc: Global, script: &mut S, report: &mut K) -> Exi
     let Ok(text) = text_of(alloc, script) else {
         return Exit::NoMemory;
     };
-    match write_all(report, text.as_slice()) {
-        Ok(()) => Exit::Done,
-        Err(written) => Exit::WriteFault {
-            written: written as u64,
-        },
-    }
+    hand_over(report, text.as_slice(), Exit::Done)
 }
 
 /// Reads a script to its end, applies its requests in order to an empty table, and writes a line for each request and the table

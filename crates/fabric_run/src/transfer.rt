@@ -2,7 +2,7 @@
 ghost use Rattle.std.specs.Prelude.{◌≡◌, true, IfOk, IfErr};
 ghost use Rattle.fault_script.specs.Scripts.{keeps_limits};
 ghost use Rattle.fabric_run.specs.Transfer.{ReadEnds, WriteEnds};
-ghost use Rattle.fabric_run.specs.Exits.{GaveScript, Stops};
+ghost use Rattle.fabric_run.specs.Exits.{GaveScript, Stops, HandsOver};
 
 use crate::exits::Exit;
 use fab_base::{Bytes, Rows};
@@ -69,7 +69,7 @@ pub(crate) fn script_from<S: Source>(alloc: Global, source: &mut S) -> Result<Sc
 }
 
 /// Hands a whole text to a sink. `Err` comes where a write fails, with the number of bytes that the sink took.
-pub(crate) fn write_all<K: Sink>(sink: &mut K, text: &[u8]) -> Result<(), usize>
+fn write_all<K: Sink>(sink: &mut K, text: &[u8]) -> Result<(), usize>
     ensures { WriteEnds (K.intake sink.old) (K.intake sink.new) text.now result }
 {
     let mut written = 0;
@@ -80,4 +80,16 @@ pub(crate) fn write_all<K: Sink>(sink: &mut K, text: &[u8]) -> Result<(), usize>
         }
     }
     Ok(())
+}
+
+/// Hands a whole report to a sink: the exit that goes with it, or that a write failed.
+pub(crate) fn hand_over<K: Sink>(sink: &mut K, text: &[u8], exit: Exit) -> Exit
+    ensures { HandsOver (K.intake sink.old) (K.intake sink.new) text.now exit result }
+{
+    match write_all(sink, text) {
+        Ok(()) => exit,
+        Err(written) => Exit::WriteFault {
+            written: written as u64,
+        },
+    }
 }

@@ -1,0 +1,71 @@
+-- What a run of `sim` tells by its exit.
+use Rattle.std.proofs.Common.{◌≡◌, ℕ, List, None, subst, sym, ◌∙◌}
+use Rattle.fab_io.specs.Devices.{Supply}
+use Rattle.fault_script.specs.declared.scripts.Script.{Script}
+use Rattle.world_laws.specs.Safety.{IsSafe}
+use Rattle.run_words.specs.declared.ends.End.{End}
+use Rattle.run_words.specs.declared.logs.Transcript.{Transcript}
+use Rattle.run_worlds.specs.Worlds.{world_of}
+use Rattle.run_worlds.specs.Sights.{first_evidence}
+use Rattle.run_worlds.specs.Endings.{IsRunOf, IsEnd}
+use Rattle.audit_laws.proofs.Evidence.{safe_run}
+use Rattle.fabric_run.specs.declared.exits.Exit.{Exit}
+use Rattle.fabric_run.specs.declared.exits.Exit.TheVariants.{Done, Usage, ReadFault, WriteFault, TooLong, BadScript, Stalled, Spent, Broken, NoMemory}
+use Rattle.fabric_run.specs.Exits.{Seen, GaveScript, HandsOver, WroteAll, Ends}
+use Rattle.fabric_run.specs.Simulated.{exit_of, IsSimulation, SimMakes, HasRun, KeepsRun, IsSafeAt}
+use Rattle.fabric_run.proofs.Endings.{handed}
+
+-- the run is one of its transcript's own script
+pub own_run : (script : Script) (t : Transcript) → IsRunOf script t → IsRunOf t.script t
+own_run script t h = subst (λ s. IsRunOf s t) (sym h.lawful.script) h
+
+-- whatever the end, all was written
+all_written : (makes : Script → Exit → List ℕ → Type 0) (old new : Seen) (end : End) → WroteAll makes old new (exit_of end) → Ends makes old new (exit_of end)
+all_written makes old new End.Done all = all
+all_written makes old new (End.Stalled client stamp) all = all
+all_written makes old new (End.Spent entries) all = all
+all_written makes old new (End.Broken evidence) all = all
+
+-- how a run ends whose report is handed over
+pub ends_so : (old new : Seen) (script : Script) (t : Transcript) (end : End) (text shown : List ℕ) (wanted exit : Exit)
+    → GaveScript old.source new.source script → IsSimulation script t end text → shown ≡ text → wanted ≡ exit_of end
+    → HandsOver old.sink new.sink shown wanted exit → Ends (SimMakes t) old new exit
+ends_so old new script t end text shown wanted exit gave h same is over =
+    handed (SimMakes t) old new script wanted shown exit gave (h.schedule, (end, h.ended, is, same ∙ h.reported))
+    (subst (λ e. WroteAll (SimMakes t) old new e → Ends (SimMakes t) old new e) (sym is) (all_written (SimMakes t) old new end)) over
+
+-- ---- the promise
+
+-- a run whose exit is one of these has no evidence
+abbrev IsCleanAt : Transcript → Exit → Type 0
+IsCleanAt t Done = first_evidence t ≡ None
+IsCleanAt t (Stalled client stamp) = first_evidence t ≡ None
+IsCleanAt t (Spent entries) = first_evidence t ≡ None
+IsCleanAt t exit = Unit {0}
+
+by_end : (t : Transcript) (end : End) → IsEnd t end → IsCleanAt t (exit_of end)
+by_end t End.Done h = h.0
+by_end t (End.Stalled client stamp) h = h.0
+by_end t (End.Spent entries) h = h.0
+by_end t (End.Broken evidence) h = tt
+
+wrote_clean : (old new : Seen) (t : Transcript) (exit : Exit) → WroteAll (SimMakes t) old new exit → IsCleanAt t exit
+wrote_clean old new t exit w =
+    let made : SimMakes t w.0 exit w.2.0 = w.2.1 in
+    subst (IsCleanAt t) (sym made.1.2) (by_end t made.1.0 made.1.1)
+
+-- without evidence the run is safe
+safe_of : (old new : Supply) (t : Transcript) → HasRun old new t → first_evidence t ≡ None → IsSafe (world_of t)
+safe_of old new t h clean = safe_run t (own_run h.0 t h.4) clean
+
+pub safe_from : (old new : Seen) (before t : Transcript) (exit : Exit) → Ends (SimMakes t) old new exit → KeepsRun old.source new.source before t exit → IsSafeAt t exit
+safe_from old new before t Done e h = safe_of old.source new.source t h (wrote_clean old new t Done e)
+safe_from old new before t (Stalled client stamp) e h = safe_of old.source new.source t h (wrote_clean old new t (Stalled client stamp) e)
+safe_from old new before t (Spent entries) e h = safe_of old.source new.source t h (wrote_clean old new t (Spent entries) e)
+safe_from old new before t (Broken evidence) e h = tt
+safe_from old new before t (WriteFault written) e h = tt
+safe_from old new before t ReadFault e h = tt
+safe_from old new before t TooLong e h = tt
+safe_from old new before t (BadScript bad) e h = tt
+safe_from old new before t NoMemory e h = tt
+safe_from old new before t Usage e h = tt

@@ -1,0 +1,62 @@
+-- What `sim` does (ours): it runs a script's replicas, sees how the run ended, and writes the report of the run.
+use Rattle.std.specs.Prelude.{◌≡◌, ℕ, List}
+use Rattle.fab_io.specs.Devices.{Supply}
+use Rattle.fault_script.specs.declared.scripts.Script.{Script}
+use Rattle.world_laws.specs.Safety.{IsSafe}
+use Rattle.run_words.specs.declared.ends.End.{End}
+use Rattle.run_words.specs.declared.logs.Transcript.{Transcript}
+use Rattle.run_worlds.specs.Worlds.{world_of}
+use Rattle.run_worlds.specs.Endings.{IsRunOf, IsEnd}
+use Rattle.script_sim.specs.Schedules.{IsScheduleOf}
+use Rattle.ledger_report.specs.Report.{report_text}
+use Rattle.fabric_run.specs.declared.exits.Exit.{Exit}
+use Rattle.fabric_run.specs.declared.exits.Exit.TheVariants.{Done, Usage, ReadFault, TooLong, BadScript, Stalled, Spent, Broken, NoMemory}
+use Rattle.fabric_run.specs.Exits.{Seen, GaveScript, IsRun}
+
+-- the exit of a run that ended so
+abbrev pub exit_of : End → Exit
+exit_of End.Done = Done
+exit_of (End.Stalled client stamp) = Stalled client stamp
+exit_of (End.Spent entries) = Spent entries
+exit_of (End.Broken evidence) = Broken evidence
+
+-- what `sim` makes of a script, where the transcript is kept: the transcript is that of the script's one run, the exit is how this run
+-- ended, and the text is the report of the run and its end
+abbrev pub SimMakes : Transcript → Script → Exit → List ℕ → Type 0
+SimMakes kept script exit text =
+    IsScheduleOf script kept × ((end : End) × IsEnd kept end × (exit ≡ exit_of end) × (text ≡ report_text kept end))
+
+-- the transcript of the script's one run, how it ended, and the report of it
+pub record IsSimulation (script : Script) (t : Transcript) (end : End) (text : List ℕ) : Type 0 where
+  pub schedule : IsScheduleOf script t
+  pub run : IsRunOf script t
+  pub ended : IsEnd t end
+  pub reported : text ≡ report_text t end
+
+-- the transcript is that of the one run of the script that was read, and this run is lawful
+abbrev pub HasRun : Supply → Supply → Transcript → Type 0
+HasRun old new kept =
+    (script : Script) × GaveScript old new script × (kept.script ≡ script) × IsScheduleOf script kept × IsRunOf script kept
+
+-- what is kept by each exit: the transcript of the run, or the one before where nothing ran to its end
+abbrev pub KeepsRun : Supply → Supply → Transcript → Transcript → Exit → Type 0
+KeepsRun old new before after Usage = after ≡ before
+KeepsRun old new before after ReadFault = after ≡ before
+KeepsRun old new before after TooLong = after ≡ before
+KeepsRun old new before after (BadScript bad) = after ≡ before
+KeepsRun old new before after NoMemory = after ≡ before
+KeepsRun old new before after exit = HasRun old new after
+
+-- where the report says that the run ended done, stalled or cut off, what the headline promises of a world holds of the run's: the
+-- ledgers of the replicas are prefixes of one, and so on
+abbrev pub IsSafeAt : Transcript → Exit → Type 0
+IsSafeAt kept Done = IsSafe (world_of kept)
+IsSafeAt kept (Stalled client stamp) = IsSafe (world_of kept)
+IsSafeAt kept (Spent entries) = IsSafe (world_of kept)
+IsSafeAt kept exit = Unit {0}
+
+-- a run of `sim` from one moment to the other, with the transcripts that were and are kept, and how it ended
+pub record IsSimulated (before after : Transcript) (old new : Seen) (exit : Exit) : Type 0 where
+  pub run : IsRun (SimMakes after) old new exit
+  pub kept : KeepsRun old.source new.source before after exit
+  pub safe : IsSafeAt after exit
