@@ -9,20 +9,25 @@ use Rattle.lms_tree.specs.declared.public.Public.{Public}
 use Rattle.replica_core.specs.Cores.{Machine}
 use Rattle.replica_core.specs.declared.events.Event.{Event}
 use Rattle.run_words.specs.declared.logs.Entry.{Entry}
-use Rattle.run_words.specs.Journal.{Maker, state, clock, signed_of, IsMade, AreSound}
+use Rattle.run_words.specs.Journal.{Maker, state, clock, parcels_of, signed_of, IsMade, AreSound}
+use Rattle.run_words.specs.Lawful.{IsKeyed}
+use Rattle.replica_log.specs.Posting.{Counts, AreNumbers}
 use Rattle.replica_log.specs.declared.keepers.Keeper.{Keeper}
 
 -- ---- a journal and what is kept of it
 
 -- the journal is one that the replica's machine makes, each message that it heard is sound, and what is kept beside it is read off it
-pub record IsKept (m : Maker) (journal : List Entry) (clock_now : ℕ) (signed : List (List ℕ)) (made : ℕ) : Type 0 where
+pub record IsKept (m : Maker) (journal : List Entry) (clock_now : ℕ) (signed : List (List ℕ)) (counts : Counts) (made : ℕ) : Type 0 where
   pub limits : IsWithinLimits m.roster
   pub member : IsTrue (is_replica m.roster m.id)
   pub replays : IsMade m journal
   pub sound : AreSound m journal
   pub clock_is : clock_now ≡ clock m journal
   pub signed_is : signed ≡ signed_of m journal
+  pub numbers : AreNumbers counts (parcels_of m journal)
   pub used : made ≡ length signed
+  -- the replica's key is in the ring, its signatures are valid under it and have a place in a message
+  pub keyed : IsKeyed m
 
 -- the core of a replica after the journal
 abbrev pub core_after : Maker → List Entry → Machine
@@ -40,7 +45,7 @@ maker_of limit gives k = record {
 }
 
 abbrev pub Keeps : {S : Type 0} → (S → ℕ) → (S → ℕ) → (S → ℕ → List ℕ → List ℕ) → Keeper S → Type 0
-Keeps limit made gives k = IsKept (maker_of limit gives k) k.journal.items k.clock k.signed.items (made k.signer)
+Keeps limit made gives k = IsKept (maker_of limit gives k) k.journal.items k.clock k.signed.items k.numbers (made k.signer)
 
 -- its core is the one after its journal
 abbrev pub IsLive : {S : Type 0} → (S → ℕ) → (S → ℕ → List ℕ → List ℕ) → Keeper S → Type 0

@@ -1,4 +1,5 @@
 //! What a log keeps.
+use crate::numbering::Numbers;
 use bft_verify::Keyring;
 use fab_base::{Bytes, Members, ReplicaId};
 use replica_core::Core;
@@ -16,5 +17,7 @@ pub(crate) struct Keeper<S> {
     /// One more than the greatest time of what it heard of replicas.
     pub(crate) clock: u64,
     pub(crate) signed: Vec<Bytes>,
+    /// How many parcels were put to each receiver.
+    pub(crate) numbers: Numbers,
     pub(crate) signer: S,
 }

@@ -11,6 +11,7 @@ mod numbering;
 mod party;
 mod posting;
 mod replaying;
+mod sending;
 mod tracing;
 
 pub use logs::ReplicaLog;

@@ -1,20 +1,22 @@
 //! The making of a log.
-ghost use Rattle.std.specs.Prelude.{◌≡◌, Some, IfOk, IsTrue};
+ghost use Rattle.std.specs.Prelude.{◌≡◌, ℕ, ◌<◌, true, List, Some, IfOk, IsTrue};
 ghost use Rattle.fab_base.specs.Roster.{is_replica};
 ghost use Rattle.fab_base.specs.declared.ids.Who.{Who};
+ghost use Rattle.fab_rules.specs.Format.{signature_fits};
 ghost use Rattle.bft_verify.specs.Ring.{key_of};
 ghost use Rattle.replica_log.specs.Logs.{fresh_log};
 
 use crate::keepers::Keeper;
 use crate::logs::ReplicaLog;
+use crate::numbering::Numbers;
 use bft_verify::Keyring;
 use fab_base::{Members, NoMemory, ReplicaId};
 use lms_tree::Signer;
 use replica_core::core;
 use std::alloc::Global;
 
-/// The log of a replica of which nothing was heard. The replica is one of the members, its signer has made no signature yet, and the
-/// signer's key is the ring's key of the replica. It fails only where memory is refused.
+/// The log of a replica of which nothing was heard. The replica is one of the members, its signer has made no signature yet, the
+/// signer's key is the ring's key of the replica, and its signatures have a place in a message. It fails only where memory is refused.
 pub fn replica_log<S: Signer + Drop>(
     alloc: Global,
     members: Members,
@@ -25,6 +27,7 @@ pub fn replica_log<S: Signer + Drop>(
     requires member { IsTrue (is_replica members me) }
     requires unused { S.made signer ≡ 0 }
     requires key { key_of ring (Who.Replica me) ≡ Some (S.key signer) }
+    requires fits { (k : ℕ) (content : List ℕ) → k < S.limit signer → signature_fits (S.gives signer k content) ≡ true }
     ensures { IfOk result (λ log. log ≡ fresh_log members ring me signer) }
 {
     let core = core(alloc, members.share()?, me)?;
@@ -36,6 +39,7 @@ pub fn replica_log<S: Signer + Drop>(
         journal: Vec::new(alloc),
         clock: 0,
         signed: Vec::new(alloc),
+        numbers: Numbers::new(alloc),
         signer,
     };
     Ok(ReplicaLog {
