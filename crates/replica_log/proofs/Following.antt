@@ -48,7 +48,7 @@ replays_all members me journal k core m ge is r i =
     ∙ ap (λ (x : Roster). made (state_of x me (map event_of journal))) (sym r)
     ∙ ap (λ (x : ReplicaId). made (state_of m.roster x (map event_of journal))) (sym i)
 
-may_come : (m : Maker) (e : Entry) → AreSound m (e ∷ []) → MayCome m.roster (event_of e)
+pub may_come : (m : Maker) (e : Entry) → AreSound m (e ∷ []) → MayCome m.roster (event_of e)
 may_come m (Entry.Heard origin x) h = shaped_from_sound m.roster m.ring x h.0
 may_come m Entry.Proposed h = tt
 may_come m Entry.Nudged h = tt
