@@ -1,5 +1,5 @@
 -- What waits to be sent is the replica's own and has a spelling, and so has what is sent.
-use Rattle.std.proofs.Common.{◌≡◌, ℕ, Bool, true, false, cond, ◌&&◌, List, [], ◌∷◌, ◌++◌, map, length, Option, Some, None, inl, inr, refl, sym, ap, subst, ◌∙◌}
+use Rattle.std.proofs.Common.{◌≡◌, ℕ, ◌<◌, Bool, true, false, cond, ◌&&◌, List, [], ◌∷◌, ◌++◌, map, length, Option, Some, None, inl, inr, refl, sym, ap, subst, ◌∙◌}
 use Rattle.std.specs.Prelude.{IsTrue}
 use Rattle.fab_base.specs.Limits.{Roster, IsWithinLimits}
 use Rattle.fab_base.specs.Roster.{is_replica}
@@ -22,8 +22,10 @@ use Rattle.fab_machine.proofs.ReplicaStates.{starts_replica, step_state}
 use Rattle.bft_verify.specs.Sound.{signature_of}
 use Rattle.run_words.specs.declared.logs.Entry.{Entry}
 use Rattle.run_words.specs.declared.movers.Mover.{Mover}
-use Rattle.run_words.specs.Journal.{Maker, event_of, state, signed_of, moves, item_by, next_item, IsNext, AreSound}
+use Rattle.run_words.specs.Journal.{Maker, event_of, state, signed_of, needs_leaf, moves, item_by, next_item, IsNext, IsMadeFrom, IsMade, AreSound}
 use Rattle.run_words.proofs.Replays.{emits}
+use Rattle.run_words.proofs.Placing.{leaf_left}
+use Rattle.run_words.proofs.Walks.{sound_more}
 use Rattle.run_words.proofs.Voices.{IsVoice, AreVoices, voice_is_own, step_voices}
 use Rattle.replica_log.specs.Posting.{IsSpelled, AreSpelled}
 use Rattle.replica_log.proofs.Following.{may_come}
@@ -141,3 +143,51 @@ sent_spelled m journal sent limits member sound next f =
 pub spelled_more : (journal : List Entry) (e : Entry) → AreSpelled journal → IsSpelled e → AreSpelled (journal ++ e ∷ [])
 spelled_more [] e h s = (s, tt)
 spelled_more (x ∷ rest) e h s = (h.0, spelled_more rest e h.1 s)
+
+-- ---- of a replica whose signatures all fit, all that is sent has a spelling
+
+abbrev pub AreShort : Maker → Type 0
+AreShort m = (k : ℕ) (content : List ℕ) → k < m.leaves → signature_fits (m.signature k content) ≡ true
+
+short_by : (me : ReplicaId) (sig : List ℕ) (x : Message) (b : Bool) → b ≡ true → IsVoice me x → signature_fits sig ≡ true
+    → signature_fits (signature_of (cond b (with_sig sig x) x)) ≡ true
+short_by me sig x false e v f = absurd cc
+short_by me sig x true e v f = subst (λ (s : List ℕ). signature_fits s ≡ true) (sym (signature_there me sig x v)) f
+
+item_short : (m : Maker) (s : Replica) (k : ℕ) (o : List Item) → s.outbox ≡ o → IsSteady m s → makes_entry (emit_step m.id s [] o).answer ≡ true
+    → (needs_leaf m.id (first_of o) ≡ true → k < m.leaves) → AreShort m
+    → signature_fits (signature_of (item_by m k (first_of o)).message) ≡ true
+item_short m s k [] e h makes left short = absurd cc
+item_short m s k (x ∷ rest) e h makes left short =
+    let voice = h.voices x (subst (In x) (sym e) (inl refl)) in
+    let own = voice_is_own m.id x.message voice in
+    short_by m.id (m.signature k (draft_of m.id x)) x.message (is_own m.id (signer_of x.message)) own voice (short k (draft_of m.id x) (left own))
+
+next_short : (m : Maker) (journal : List Entry) → IsSteady m (state m journal) → moves m journal Mover.Emit ≡ true → AreShort m
+    → signature_fits (signature_of (next_item m journal).message) ≡ true
+unfolding next_item
+next_short m journal h makes short =
+    item_short m (state m journal) (length (signed_of m journal)) (state m journal).outbox refl h (emits m journal makes)
+    (leaf_left m journal makes) short
+
+made_spelled : (m : Maker) (journal : List Entry) (e : Entry) → IsSteady m (state m journal) → IsNext m journal e → AreShort m → IsSpelled e
+made_spelled m journal (Entry.Sent sent) h next short =
+    subst (λ (x : Item). fits x.message ≡ true) (sym next.1) (next_fits m journal h next.0 (next_short m journal h next.0 short))
+made_spelled m journal (Entry.Heard origin x) h next short = tt
+made_spelled m journal Entry.Proposed h next short = tt
+made_spelled m journal Entry.Nudged h next short = tt
+made_spelled m journal Entry.Executed h next short = tt
+
+spelled_from : (m : Maker) (earlier rest : List Entry) → IsWithinLimits m.roster → IsTrue (is_replica m.roster m.id) → AreShort m
+    → AreSound m earlier → IsMadeFrom m earlier rest → AreSound m rest
+    → AreSpelled rest
+spelled_from m earlier [] limits member short before made sound = tt
+spelled_from m earlier (e ∷ rest) limits member short before made sound =
+    (made_spelled m earlier e (steady m earlier limits member before) made.0 short,
+    spelled_from m (earlier ++ e ∷ []) rest limits member short (sound_more m earlier e before sound.0) made.1 sound.1)
+
+-- what a journal's items put has a spelling
+pub kept_spelled : (m : Maker) (journal : List Entry) → IsWithinLimits m.roster → IsTrue (is_replica m.roster m.id) → AreShort m
+    → IsMade m journal → AreSound m journal
+    → AreSpelled journal
+kept_spelled m journal limits member short made sound = spelled_from m [] journal limits member short tt made sound
