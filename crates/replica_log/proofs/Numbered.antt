@@ -1,12 +1,11 @@
 -- Parcels that are numbered by counts are those that are put after as many.
 use Rattle.std.proofs.Common.{◌≡◌, ℕ, ◌+◌, Bool, true, false, cond, List, [], ◌∷◌, ◌++◌, refl, sym, ap, subst, ◌∙◌, zero-add, add-zero, append-nil, append_assoc}
-use Rattle.std.specs.List.{count_by}
 use Rattle.std.proofs.lemmas.List.Sums.{sum_by_push}
 use Rattle.fab_base.specs.declared.ids.ReplicaId.{ReplicaId}
 use Rattle.run_words.specs.Keyed.{is_same}
 use Rattle.run_words.specs.Journal.{put}
 use Rattle.run_words.specs.declared.logs.Parcel.{Parcel}
-use Rattle.run_words.proofs.Keys.{same_is, same_turned, other_turned}
+use Rattle.run_words.proofs.Keys.{same_is, other_turned}
 use Rattle.replica_log.specs.Posting.{Counts, number_in, raised, raised_by, AreNumbers, numbered}
 
 -- ---- one number more

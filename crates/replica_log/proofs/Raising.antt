@@ -1,5 +1,5 @@
 -- Where a receiver is listed, and what raising its number does.
-use Rattle.std.proofs.Common.{◌≡◌, ℕ, zero, suc, ◌+◌, ◌<◌, ◌≤◌, ◌==◌, ◌&&◌, Bool, true, false, cond, List, [], ◌∷◌, ◌++◌, take, drop, length, get_or, set, Some, None, refl, sym, ap, subst, ◌∙◌, arith, take_all, append_assoc, add-one}
+use Rattle.std.proofs.Common.{◌≡◌, ℕ, ◌+◌, ◌<◌, ◌≤◌, ◌==◌, ◌&&◌, Bool, true, false, cond, [], ◌∷◌, ◌++◌, take, drop, length, get_or, set, Some, None, sym, ap, subst, ◌∙◌, take_all, append_assoc, add-one}
 use Rattle.std.proofs.lemmas.List.{drop_more, take_more, drop_all, set_split, get_or_default}
 use Rattle.fab_base.specs.declared.ids.ReplicaId.{ReplicaId}
 use Rattle.run_words.specs.Keyed.{is_same}

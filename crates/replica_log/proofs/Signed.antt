@@ -3,7 +3,7 @@ use Rattle.std.proofs.Common.{◌≡◌, ℕ, true, List, ◌++◌, length, sym,
 use Rattle.std.specs.Int.{w16, to_be_bytes}
 use Rattle.fab_base.specs.declared.ids.ReplicaId.{ReplicaId}
 use Rattle.fab_base.specs.declared.messages.Message.{Message}
-use Rattle.fab_rules.specs.Spelling.{body_of, content_of, spelling_of}
+use Rattle.fab_rules.specs.Spelling.{content_of, spelling_of}
 use Rattle.fab_rules.specs.Statements.{signer_of}
 use Rattle.fab_machine.specs.Items.{is_own, with_sig}
 

@@ -1,11 +1,9 @@
 -- The walk over a journal gives its clock, its parcels and their numbers, whatever the replica was made with.
 use Rattle.std.proofs.Common.{◌≡◌, ℕ, zero, suc, ◌+◌, ◌<◌, ◌≤◌, List, [], ◌∷◌, ◌++◌, take, length, get_or, refl, sym, ap, subst, ◌∙◌, arith, take_all, append-nil}
-use Rattle.std.specs.List.{fold, count_by}
+use Rattle.std.specs.List.{fold}
 use Rattle.std.proofs.lemmas.List.{take_more}
 use Rattle.std.proofs.lemmas.List.Sums.{fold_push}
 use Rattle.fab_rules.specs.Spelling.{spelling_of}
-use Rattle.fab_base.specs.declared.ids.ReplicaId.{ReplicaId}
-use Rattle.run_words.specs.Keyed.{is_same}
 use Rattle.run_words.specs.Journal as journals
 use Rattle.run_words.specs.Journal.{Maker, after_entry, walk, added, parcels_of}
 use Rattle.run_words.specs.declared.logs.Entry.{Entry}

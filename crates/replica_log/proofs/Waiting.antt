@@ -1,21 +1,20 @@
 -- What waits to be sent is the replica's own and has a spelling, and so has what is sent.
-use Rattle.std.proofs.Common.{◌≡◌, ℕ, ◌<◌, Bool, true, false, cond, ◌&&◌, List, [], ◌∷◌, ◌++◌, map, length, Option, Some, None, inl, inr, refl, sym, ap, subst, ◌∙◌}
+use Rattle.std.proofs.Common.{◌≡◌, ℕ, ◌<◌, Bool, true, false, cond, ◌&&◌, List, [], ◌∷◌, ◌++◌, map, length, inl, refl, sym, subst}
 use Rattle.std.specs.Prelude.{IsTrue}
-use Rattle.fab_base.specs.Limits.{Roster, IsWithinLimits}
+use Rattle.fab_base.specs.Limits.{IsWithinLimits}
 use Rattle.fab_base.specs.Roster.{is_replica}
 use Rattle.fab_base.specs.declared.ids.ReplicaId.{ReplicaId}
 use Rattle.fab_base.specs.declared.messages.Message.{Message}
 use Rattle.fab_base.specs.declared.answers.Item.{Item}
 use Rattle.fab_rules.specs.Format.{is_u64, id_fits, digest_fits, signature_fits, batch_fits, lines_fit, fits}
 use Rattle.fab_rules.specs.Lists.{In, first_of}
-use Rattle.fab_rules.specs.Spelling.{content_of}
 use Rattle.fab_rules.specs.Statements.{signer_of}
 use Rattle.fab_rules.proofs.Fitting.{fields_are}
 use Rattle.fab_rules.proofs.Lengths.{proposal_is_spelled, prepare_is_spelled, commit_is_spelled, note_is_spelled}
 use Rattle.fab_machine.specs.State.{Replica}
-use Rattle.fab_machine.specs.Items.{is_own, with_sig, sent_item, draft_of}
+use Rattle.fab_machine.specs.Items.{is_own, with_sig, draft_of}
 use Rattle.fab_machine.specs.ReplicaState.{IsReplicaState}
-use Rattle.fab_machine.specs.Step.{step, first, makes_entry, emit_step}
+use Rattle.fab_machine.specs.Step.{step, makes_entry, emit_step}
 use Rattle.fab_machine.specs.Diaries.{state_from}
 use Rattle.fab_machine.proofs.Members.{is_member}
 use Rattle.fab_machine.proofs.ReplicaStates.{starts_replica, step_state}
@@ -182,9 +181,10 @@ spelled_from : (m : Maker) (earlier rest : List Entry) → IsWithinLimits m.rost
     → AreSound m earlier → IsMadeFrom m earlier rest → AreSound m rest
     → AreSpelled rest
 spelled_from m earlier [] limits member short before made sound = tt
-spelled_from m earlier (e ∷ rest) limits member short before made sound =
-    (made_spelled m earlier e (steady m earlier limits member before) made.0 short,
-    spelled_from m (earlier ++ e ∷ []) rest limits member short (sound_more m earlier e before sound.0) made.1 sound.1)
+spelled_from m earlier (e ∷ rest) limits member short before made sound = (
+  made_spelled m earlier e (steady m earlier limits member before) made.0 short,
+  spelled_from m (earlier ++ e ∷ []) rest limits member short (sound_more m earlier e before sound.0) made.1 sound.1,
+)
 
 -- what a journal's items put has a spelling
 pub kept_spelled : (m : Maker) (journal : List Entry) → IsWithinLimits m.roster → IsTrue (is_replica m.roster m.id) → AreShort m

@@ -1,5 +1,5 @@
 -- How the parcels of a replica are numbered, receiver by receiver, and put.
-use Rattle.std.specs.Prelude.{◌≡◌, ℕ, ◌+◌, ◌-◌, ◌<◌, Bool, cond, List, [], ◌∷◌, ◌++◌, length, map, take, IsTrue, Option, Some, None, slice_index_or, slice_set, ◌≤◌}
+use Rattle.std.specs.Prelude.{◌≡◌, ℕ, ◌+◌, ◌-◌, ◌<◌, cond, List, [], ◌∷◌, ◌++◌, length, map, take, IsTrue, Option, Some, None, slice_index_or, slice_set, ◌≤◌}
 use Rattle.std.specs.List.{count_by}
 use Rattle.fab_base.specs.declared.ids.ReplicaId.{ReplicaId}
 use Rattle.fab_rules.specs.Lists.{In}

@@ -1,5 +1,5 @@
 -- What is read off a journal for its parcels, entry by entry.
-use Rattle.std.specs.Prelude.{List, ◌++◌}
+use Rattle.std.specs.Prelude.{◌++◌}
 use Rattle.fab_rules.specs.Spelling.{spelling_of}
 use Rattle.run_words.specs.Journal.{tick}
 use Rattle.run_words.specs.declared.logs.Entry.{Entry}

@@ -1,5 +1,4 @@
-use Rattle.std.proofs.Common.{◌∙◌, ◌++◌, ap, subst, sym, replicate, map, List}
-use Rattle.run_words.specs.declared.logs.Parcel.{Parcel}
+use Rattle.std.proofs.Common.{◌∙◌, ◌++◌, ap, subst, sym, replicate, map}
 use Rattle.replica_log.specs.Posting.{HaveRoom, ended_parcel}
 use Rattle.replica_log.proofs.Ending.{ended_numbered, have_room, all_made}
 use Rattle.replica_log.proofs.posting.prepare.Goals as goal
