@@ -1,5 +1,5 @@
 -- The replicas of a script, one after another, with their signers.
-use Rattle.std.proofs.Common.{◌≡◌, ℕ, zero, suc, ◌<◌, ◌≤◌, List, [], ◌∷◌, ◌++◌, map, length, take, get_or, inl, inr, refl, sym, ap, subst, ◌∙◌, arith, Some}
+use Rattle.std.proofs.Common.{◌≡◌, true, ℕ, zero, suc, ◌<◌, ◌≤◌, List, [], ◌∷◌, ◌++◌, map, length, take, get_or, inl, inr, refl, sym, ap, subst, ◌∙◌, arith, Some}
 use Rattle.fab_base.specs.declared.ids.ReplicaId.{ReplicaId}
 use Rattle.fab_base.specs.declared.ids.Who.{Who}
 use Rattle.fab_rules.specs.Lists.{In}
@@ -10,6 +10,10 @@ use Rattle.bft_verify.specs.Ring.{Ring, key_of}
 use Rattle.script_keys.specs.Keys.{replicas_of, signer_of, signers_of}
 use Rattle.script_keys.specs.Rings.{ring_of}
 use Rattle.script_keys.proofs.Rows.{replica_in_ring}
+use Rattle.script_keys.proofs.Signatures.{has_place as signature_has_place}
+use Rattle.fab_rules.specs.Format.{signature_fits}
+use Rattle.lms_tree.specs.Heights.{leaf_count}
+use Rattle.lms_tree.specs.Signatures.{leaf_signature}
 use Rattle.replica_log.specs.Logs.{Log}
 use Rattle.script_sim.specs.Schedules.{log_of}
 
@@ -67,3 +71,9 @@ next_at_length script replicas signers logs before rest later signer d k ids all
     let within : length before ≤ length replicas = subst (λ (l : List ReplicaId). length before ≤ length l) (sym ids) (omega (arith, here.within)) in
     let same : k ≡ length before = at ∙ ap length made ∙ long (log_of script) replicas (length before) within in
     subst (λ n. IsNext script (get_or replicas n d) signer) (sym same) (next_is script replicas signers before rest later signer d ids all cut first)
+
+pub has_place : (script : Script) (me : ReplicaId) (signer : Leaves) → IsNext script me signer
+    → (k : ℕ) (content : List ℕ) → k < leaf_count signer.key.height → signature_fits (leaf_signature signer.key k content) ≡ true
+has_place script me signer h =
+    subst (λ (s : Leaves). (k : ℕ) (content : List ℕ) → k < leaf_count s.key.height → signature_fits (leaf_signature s.key k content) ≡ true) (sym h.signs)
+    (λ k content lt. signature_has_place script (Who.Replica me) k content lt)

@@ -1,10 +1,12 @@
 //! The logs that a run starts with.
-ghost use Rattle.std.specs.Prelude.{◌≡◌, ◌≤◌, ◌++◌, Some, length, IfOk, OnOk, IsTrue};
+ghost use Rattle.std.specs.Prelude.{◌≡◌, ℕ, ◌<◌, ◌≤◌, ◌++◌, true, List, Some, length, IfOk, OnOk, IsTrue};
 ghost use Rattle.fab_base.specs.Roster.{is_replica};
 ghost use Rattle.fab_base.specs.declared.ids.Who.{Who};
 ghost use Rattle.fab_base.specs.declared.limits.TheConstants.{MOST_CLUSTERS};
-ghost use Rattle.fault_script.specs.declared.scripts.Script.{Script};
+ghost use Rattle.fab_rules.specs.Format.{signature_fits};
+ghost use Rattle.lms_tree.specs.Heights.{leaf_count};
 ghost use Rattle.lms_tree.specs.Keys.{public_of_key};
+ghost use Rattle.lms_tree.specs.Signatures.{leaf_signature};
 ghost use Rattle.bft_verify.specs.Ring.{key_of};
 ghost use Rattle.replica_log.specs.Logs.{fresh_log};
 ghost use Rattle.script_keys.specs.Keys.{members_of, replicas_from, replicas_of, signers_of};
@@ -52,6 +54,7 @@ fn log_of(
     requires member { IsTrue (is_replica members.now me) }
     requires unused { signer.used ≡ 0 }
     requires key { key_of ring.now (Who.Replica me) ≡ Some (public_of_key signer.key) }
+    requires fits { (k : ℕ) (content : List ℕ) → k < leaf_count signer.key.height → signature_fits (leaf_signature signer.key k content) ≡ true }
     ensures { IfOk result (λ log. log ≡ fresh_log members.now ring.now me signer) }
 {
     replica_log(alloc, members.share()?, ring.share()?, me, signer)
