@@ -81,8 +81,9 @@ fn run<S: Source, K: Sink>(
 ///
 /// Once the report is written whole, the exit is how the run ended: `Done` where each request took effect in each replica's ledger,
 /// `Stalled` where nothing moves any more and one didn't, `Spent` where the run was cut off before, `Broken` where a premise under which
-/// ledgers agree doesn't hold of it. The other exits come as with `plain` (`run`). `kept` becomes the transcript of the run before the
-/// first byte is written, and stays as it was where the script isn't read, or memory is refused (`kept`).
+/// ledgers agree doesn't hold of it. The other exits come as with `plain` (`run`). `kept`, at first that of no run,
+/// becomes the transcript of the run before the first byte is written, and stays as it was where the script isn't read, or memory is
+/// refused (`kept`).
 ///
 /// At `Done`, `Stalled` and `Spent` the replicas agree, with no premise left: their ledgers are prefixes of one, nothing in it takes effect
 /// twice or without its client, and what enough replicas told of a block is so (`safe`).
