@@ -1,3 +1,4 @@
+pub mod Entering
 pub mod Keeping
 pub mod Logs
 pub mod Posting

@@ -6,6 +6,7 @@ ghost use Rattle.run_words.specs.Acts.{answer_to};
 ghost use Rattle.run_words.specs.declared.logs.Entry as entries;
 ghost use Rattle.replica_log.specs.Keeping.{maker_of, Keeps, IsLive, Stays, Enters};
 
+use crate::entering::{NewEntry, enter};
 use crate::keepers::Keeper;
 use bft_verify::Verified;
 use fab_base::{Answer, Duplicate, NoMemory};
@@ -26,6 +27,14 @@ fn ticked(clock: u64, origin: Origin) -> Result<u64, NoMemory>
     }
 }
 
+/// The entry of a hearing.
+fn heard_entry(origin: Origin, heard: &Verified) -> Result<NewEntry, NoMemory>
+    ensures { IfOk result (λ entry. entry ≡ entries.Entry.Heard origin heard.now.message) }
+{
+    let message = heard.message().duplicate()?;
+    Ok(NewEntry::new(Entry::Heard(origin, message)))
+}
+
 impl<S: Signer + Drop> Keeper<S> {
     /// Hears a message, which makes an entry. After a refusal of memory the journal is as it was, and of the core nothing is said.
     pub(crate) fn hear(&mut self, origin: Origin, heard: Verified) -> Result<Answer, NoMemory>
@@ -38,10 +47,10 @@ impl<S: Signer + Drop> Keeper<S> {
         ensures stays { OnErr result (Stays S.limit S.made S.gives self.old self.new) }
     {
         let clock = ticked(self.clock, origin)?;
-        let message = heard.message().duplicate()?;
         self.journal.reserve(1)?;
-        let answer = self.core.step(Event::Hear(heard.into_shaped()))?;
-        self.journal.push(Entry::Heard(origin, message)).unwrap();
+        let entry = heard_entry(origin, &heard)?;
+        let event = Event::Hear(heard.into_shaped());
+        let answer = enter(&mut self.core, &mut self.journal, event, entry)?;
         self.clock = clock;
         Ok(answer)
     }

@@ -2,6 +2,7 @@
 #![tactic(auto)]
 
 mod acting;
+mod entering;
 mod hearing;
 mod keepers;
 mod logs;
