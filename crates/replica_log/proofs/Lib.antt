@@ -5,3 +5,5 @@ pub mod Ending
 pub mod Tracked
 pub mod Waiting
 pub mod Signed
+pub mod Growing
+pub mod Going

@@ -1,11 +1,7 @@
 -- What holds of what a log keeps, and what an act does to it.
-use Rattle.std.specs.Prelude.{◌≡◌, ℕ, ◌<◌, ◌≤◌, Bool, true, false, cond, List, [], ◌∷◌, ◌++◌, length, Some, IsTrue}
-use Rattle.fab_base.specs.declared.ids.ReplicaId.{ReplicaId}
-use Rattle.fab_base.specs.declared.ids.Who.{Who}
-use Rattle.fab_base.specs.Limits.{Roster, IsWithinLimits}
+use Rattle.std.specs.Prelude.{◌≡◌, ℕ, Bool, false, cond, List, [], ◌∷◌, ◌++◌, length, IsTrue}
+use Rattle.fab_base.specs.Limits.{IsWithinLimits}
 use Rattle.fab_base.specs.Roster.{is_replica}
-use Rattle.bft_verify.specs.Ring.{Ring, key_of}
-use Rattle.lms_tree.specs.declared.public.Public.{Public}
 use Rattle.replica_core.specs.Cores.{Machine}
 use Rattle.replica_core.specs.declared.events.Event.{Event}
 use Rattle.run_words.specs.declared.logs.Entry.{Entry}
