@@ -7,3 +7,4 @@ pub mod Waiting
 pub mod Signed
 pub mod Growing
 pub mod Going
+pub mod Heard

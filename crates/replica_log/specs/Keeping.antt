@@ -2,6 +2,7 @@
 use Rattle.std.specs.Prelude.{◌≡◌, ℕ, Bool, false, cond, List, [], ◌∷◌, ◌++◌, length, IsTrue}
 use Rattle.fab_base.specs.Limits.{IsWithinLimits}
 use Rattle.fab_base.specs.Roster.{is_replica}
+use Rattle.fab_base.specs.declared.messages.Message.{Message}
 use Rattle.replica_core.specs.Cores.{Machine}
 use Rattle.replica_core.specs.declared.events.Event.{Event}
 use Rattle.run_words.specs.declared.logs.Entry.{Entry}
@@ -85,3 +86,10 @@ IsMoving Event.Batch Entry.Proposed = Unit {0}
 IsMoving Event.Nudge Entry.Nudged = Unit {0}
 IsMoving Event.Execute Entry.Executed = Unit {0}
 IsMoving event entry = ⊥
+
+-- ---- what the core hears
+
+-- the entry of a message that is heard
+abbrev pub IsHearing : Entry → Message → Type 0
+IsHearing (Entry.Heard origin x) heard = x ≡ heard
+IsHearing entry heard = ⊥
