@@ -1,2 +1,4 @@
 pub mod Text
 pub mod Report
+pub mod Telling
+pub mod Walking

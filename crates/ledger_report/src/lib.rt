@@ -5,6 +5,9 @@
 //! words are `specs/Text` and `specs/Report`.
 #![tactic(auto)]
 
+mod blocks;
+mod lines;
+mod notes;
 mod reporting;
 mod text;
 
