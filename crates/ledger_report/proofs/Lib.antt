@@ -1,2 +1,4 @@
 pub mod Tellings
 pub mod Walking
+pub mod Longest
+pub mod Replaying

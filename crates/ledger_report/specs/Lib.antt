@@ -2,3 +2,4 @@ pub mod Text
 pub mod Report
 pub mod Telling
 pub mod Walking
+pub mod Replayed

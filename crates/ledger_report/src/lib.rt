@@ -6,6 +6,7 @@
 #![tactic(auto)]
 
 mod blocks;
+mod ledgers;
 mod lines;
 mod notes;
 mod reporting;

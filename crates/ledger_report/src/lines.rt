@@ -1,5 +1,5 @@
 //! The lines of a report that say who has which ledger, and how the run ended.
-ghost use Rattle.std.specs.Prelude.{◌≡◌, ◌<◌, ◌≤◌, ◌++◌, codes, sum, OnOk};
+ghost use Rattle.std.specs.Prelude.{◌≡◌, ◌<◌, ◌≤◌, ◌++◌, codes, length, sum, IfOk, OnOk};
 ghost use Rattle.hex.specs.Hex.{encode_lower};
 ghost use Rattle.ledger_report.specs.Report.{id_text, head_line, ledger_line, who_text, end_text, end_line};
 
@@ -50,23 +50,26 @@ pub(crate) fn push_head(text: &mut Vec<u8>, sizes: &[u8]) -> Result<(), NoMemory
     push_bytes(text, b"\n")
 }
 
-/// Adds the line of a replica's ledger.
+/// Adds the line of a replica's ledger, and answers how many blocks that has.
 pub(crate) fn push_ledger(
     text: &mut Vec<u8>,
     clusters: u8,
     id: ReplicaId,
     rounds: &Rounds,
-) -> Result<(), NoMemory>
+) -> Result<usize, NoMemory>
     requires { 0 < clusters }
-    ensures { OnOk result (text.new.items ≡ text.old.items ++ ledger_line clusters id rounds.now.rounds.blocks) }
+    ensures line { OnOk result (text.new.items ≡ text.old.items ++ ledger_line clusters id rounds.now.rounds.blocks) }
+    ensures blocks { IfOk result (λ blocks. blocks ≡ length rounds.now.rounds.blocks) }
 {
+    let blocks = rounds.ledger().len();
     push_bytes(text, b"ledger ")?;
     push_id(text, id)?;
     push_bytes(text, b" ")?;
-    push_number(text, rounds.ledger().len() as u64 / clusters as u64)?;
+    push_number(text, blocks as u64 / clusters as u64)?;
     push_bytes(text, b" ")?;
     push_digest(text, &rounds.chain())?;
-    push_bytes(text, b"\n")
+    push_bytes(text, b"\n")?;
+    Ok(blocks)
 }
 
 /// Adds whoever signs.

@@ -1,0 +1,58 @@
+//! The ledgers of a run, and the longest of them. One replica's state is held at a time.
+ghost use Rattle.std.specs.Prelude.{◌≡◌, ◌++◌, All, flat_map, length, IfOk, OnOk};
+ghost use Rattle.std.specs.Option.{option_copied};
+ghost use Rattle.ledger_report.specs.Replayed.{ledger_after, core_after, ledger_text, longest_after, IsReplayable, IsLedgerOf};
+
+use crate::lines::push_ledger;
+use fab_base::{Members, NoMemory};
+use replica_core::Core;
+use replica_log::replay;
+use run_words::Trace;
+use std::alloc::Global;
+
+/// The core of a replica after its journal.
+pub(crate) fn replayed(alloc: Global, members: &Members, trace: &Trace) -> Result<Core, NoMemory>
+    requires { IsReplayable members.now trace.now }
+    ensures { IfOk result (λ core. core ≡ core_after members.now trace.now) }
+{
+    replay(alloc, members.share()?, trace.id, trace.journal.as_slice())
+}
+
+/// Adds the line of a replica's ledger, and answers how many blocks that has.
+fn push_replayed(
+    alloc: Global,
+    text: &mut Vec<u8>,
+    members: &Members,
+    trace: &Trace,
+) -> Result<usize, NoMemory>
+    requires { IsReplayable members.now trace.now }
+    ensures line { OnOk result (text.new.items ≡ text.old.items ++ ledger_text members.now trace.now) }
+    ensures blocks { IfOk result (λ blocks. blocks ≡ length (ledger_after members.now trace.now)) }
+{
+    let core = replayed(alloc, members, trace)?;
+    push_ledger(text, members.clusters(), trace.id, core.rounds())
+}
+
+/// Adds a line for each replica's ledger, and answers the trace of the first replica with the longest one. `None` comes where no ledger
+/// has a block.
+pub(crate) fn push_ledgers<'a>(
+    alloc: Global,
+    text: &mut Vec<u8>,
+    members: &Members,
+    traces: &'a [Trace],
+) -> Result<Option<&'a Trace>, NoMemory>
+    requires { All (IsReplayable members.now) traces.now }
+    ensures lines { OnOk result (text.new.items ≡ text.old.items ++ flat_map (ledger_text members.now) traces.now) }
+    ensures longest { IfOk result (λ best. IsLedgerOf members.now (longest_after members.now traces.now) (option_copied best)) }
+{
+    let mut best = None;
+    let mut most = 0;
+    for trace in traces {
+        let blocks = push_replayed(alloc, text, members, trace)?;
+        if blocks > most {
+            best = Some(trace);
+            most = blocks;
+        }
+    }
+    Ok(best)
+}
