@@ -1,5 +1,5 @@
 -- A walk over the blocks of a ledger.
-use Rattle.std.proofs.Common.{◌≡◌, ℕ, zero, suc, ◌+◌, ◌-◌, ◌*◌, ◌/◌, ◌%◌, ◌<◌, ◌≤◌, true, cond, nat_le, ◌&&◌, List, [], ◌∷◌, ◌++◌, length, drop, Option, Some, None, Bor, refl, sym, ap, ◌∙◌, append_assoc, add-one, arith}
+use Rattle.std.proofs.Common.{◌≡◌, ℕ, zero, suc, ◌+◌, ◌-◌, ◌*◌, ◌/◌, ◌%◌, ◌<◌, ◌≤◌, true, cond, nat_le, ◌&&◌, List, [], ◌∷◌, ◌++◌, length, drop, map, Option, Some, None, Bor, refl, sym, ap, ◌∙◌, append_assoc, add-one, arith}
 use Rattle.std.specs.Option.{option_map, option_copied, IsSome}
 use Rattle.std.specs.List.{slice_get, flat_map}
 use Rattle.std.proofs.Math.Nat.{div-lt_iff_lt-mul, mul_comm}
@@ -13,7 +13,13 @@ use Rattle.fab_rules.specs.declared.blocks.Block.{Block}
 use Rattle.fab_rules.specs.Ledger.{RunBlock, run_from}
 use Rattle.fab_machine.specs.State.{Rounds}
 use Rattle.fab_machine.specs.Rounds.{has_block, place_of, ran_block}
+use Rattle.run_words.specs.declared.logs.Trace.{Trace}
 use Rattle.round_exec.proofs.Places.{run_blocks}
+use Rattle.ledger_report.specs.Text.{reply_lines}
+use Rattle.ledger_report.specs.Report.{block_lines}
+use Rattle.ledger_report.specs.Telling.{telling_of}
+use Rattle.ledger_report.specs.Walking.{block_line, lines_told}
+use Rattle.ledger_report.proofs.Tellings.{notes_are}
 
 -- ---- where a place's block stands
 
@@ -74,3 +80,9 @@ lines_step f done now whole s t left rest b o n e a l h =
     ∙ ap (λ x. done ++ (f (record { block = b; outcomes = x }) ++ flat_map f (run_from (state_after_all s b.batch) rest))) e
     ∙ ap (λ x. done ++ x) (sym (flat_map-cons f (record { block = b; outcomes = outcomes_of s b.batch }) (run_from (state_after_all s b.batch) rest)))
     ∙ sym (ap (λ x. done ++ flat_map f (run_from s x)) l) ∙ h
+
+-- ---- what is told is what the journals tell
+
+pub lines_are : (traces : List Trace) (ran : List RunBlock) → flat_map (lines_told (map telling_of traces)) ran ≡ flat_map (block_lines traces) ran
+lines_are traces ran =
+    ap (λ (f : RunBlock → List ℕ). flat_map f ran) (λ i x. block_line x.block (notes_are traces x i) ++ reply_lines x.block.batch x.outcomes)

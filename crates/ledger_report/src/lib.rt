@@ -10,6 +10,7 @@ mod ledgers;
 mod lines;
 mod notes;
 mod reporting;
+mod runs;
 mod text;
 
 pub use reporting::report;
