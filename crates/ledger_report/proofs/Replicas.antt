@@ -81,10 +81,10 @@ is_told r m t limits is kept =
         whole = rel.rounds.whole;
       };
       ledger_is =
-      ap ledger (same_diary m t.journal kept.replays)
-      ∙ (λ i. ledger (diary_of (is.roster_is i) (named i) events))
-      ∙ sym (ledger-after_saying (diary_of r t.id events) (statements_in t.id (state_after r t).outbox))
-      ∙ sym rel.rounds.blocks_are;
+          ap ledger (same_diary m t.journal kept.replays)
+          ∙ (λ i. ledger (diary_of (is.roster_is i) (named i) events))
+          ∙ sym (ledger-after_saying (diary_of r t.id events) (statements_in t.id (state_after r t).outbox))
+          ∙ sym rel.rounds.blocks_are;
     }
 
 -- ---- all traces
@@ -105,7 +105,7 @@ are_told r (m ∷ makers) (t ∷ traces) limits is kept =
     record {
       replayable = All-cons (IsReplayable r) t traces here.replayable rest.replayable;
       lines =
-      (λ i. ledger_line (length r.sizes) t.id (here.ledger_is i) ++ rest.lines i) ∙ sym (flat_map-cons (ledger_text r) t traces);
+          (λ i. ledger_line (length r.sizes) t.id (here.ledger_is i) ++ rest.lines i) ∙ sym (flat_map-cons (ledger_text r) t traces);
       ledgers = λ i. here.ledger_is i ∷ rest.ledgers i;
     }
 

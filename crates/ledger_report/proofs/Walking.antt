@@ -1,5 +1,5 @@
 -- A walk over the blocks of a ledger.
-use Rattle.std.proofs.Common.{◌≡◌, ℕ, zero, suc, ◌+◌, ◌-◌, ◌*◌, ◌/◌, ◌%◌, ◌<◌, ◌≤◌, true, cond, nat_le, ◌&&◌, List, [], ◌∷◌, ◌++◌, length, drop, map, Option, Some, None, Bor, refl, sym, ap, ◌∙◌, append_assoc, add-one, arith}
+use Rattle.std.proofs.Common.{◌≡◌, ℕ, zero, suc, ◌+◌, ◌-◌, ◌*◌, ◌/◌, ◌%◌, ◌<◌, ◌≤◌, true, cond, nat_le, ◌&&◌, List, [], ◌∷◌, ◌++◌, length, drop, map, Option, Some, None, Bor, Result, Ok, Err, OnOk, refl, sym, ap, ◌∙◌, append_assoc, add-one, arith}
 use Rattle.std.specs.Option.{option_map, option_copied, IsSome}
 use Rattle.std.specs.List.{slice_get, flat_map}
 use Rattle.std.proofs.Math.Nat.{div-lt_iff_lt-mul, mul_comm}
@@ -10,15 +10,15 @@ use Rattle.fab_base.proofs.Tests.{and_both, is_at_most}
 use Rattle.fab_base.specs.Table.{State, empty_state, outcomes_of, state_after_all}
 use Rattle.fab_base.specs.declared.requests.Outcome.{Outcome}
 use Rattle.fab_rules.specs.declared.blocks.Block.{Block}
-use Rattle.fab_rules.specs.Ledger.{RunBlock, run_from}
+use Rattle.fab_rules.specs.Ledger.{RunBlock, run_from, state_after_blocks}
 use Rattle.fab_machine.specs.State.{Rounds}
 use Rattle.fab_machine.specs.Rounds.{has_block, place_of, ran_block}
 use Rattle.run_words.specs.declared.logs.Trace.{Trace}
 use Rattle.round_exec.proofs.Places.{run_blocks}
-use Rattle.ledger_report.specs.Text.{reply_lines}
+use Rattle.ledger_report.specs.Text.{reply_lines, table_text}
 use Rattle.ledger_report.specs.Report.{block_lines}
-use Rattle.ledger_report.specs.Telling.{telling_of}
-use Rattle.ledger_report.specs.Walking.{block_line, lines_told}
+use Rattle.ledger_report.specs.Telling.{Telling, telling_of}
+use Rattle.ledger_report.specs.Walking.{block_line, lines_told, run_text}
 use Rattle.ledger_report.proofs.Tellings.{notes_are}
 
 -- ---- where a place's block stands
@@ -83,6 +83,21 @@ lines_step f done now whole s t left rest b o n e a l h =
 
 -- ---- what is told is what the journals tell
 
-pub lines_are : (traces : List Trace) (ran : List RunBlock) → flat_map (lines_told (map telling_of traces)) ran ≡ flat_map (block_lines traces) ran
+lines_are : (traces : List Trace) (ran : List RunBlock) → flat_map (lines_told (map telling_of traces)) ran ≡ flat_map (block_lines traces) ran
 lines_are traces ran =
     ap (λ (f : RunBlock → List ℕ). flat_map f ran) (λ i x. block_line x.block (notes_are traces x i) ++ reply_lines x.block.batch x.outcomes)
+
+pub run_is : (now mid old : List ℕ) (traces : List Trace) (told : List Telling) (s t u : State) (entries : List (List ℕ × List ℕ)) (blocks : List Block)
+    → told ≡ map telling_of traces → s ≡ u → t ≡ state_after_blocks s blocks → entries ≡ t.entries
+    → mid ≡ old ++ flat_map (lines_told told) (run_from s blocks) → now ≡ mid ++ table_text entries → now ≡ old ++ run_text traces u blocks
+run_is now mid old traces told s t u entries blocks a b c d e f =
+    let table : entries ≡ (state_after_blocks u blocks).entries = d ∙ (λ i. (c i).entries) ∙ (λ i. (state_after_blocks (b i) blocks).entries) in
+    f
+    ∙ (λ i. e i ++ table_text (table i))
+    ∙ (λ i. (old ++ flat_map (lines_told (a i)) (run_from (b i) blocks)) ++ table_text (state_after_blocks u blocks).entries)
+    ∙ ap (λ l. (old ++ l) ++ table_text (state_after_blocks u blocks).entries) (lines_are traces (run_from u blocks))
+    ∙ append_assoc old (flat_map (block_lines traces) (run_from u blocks)) (table_text (state_after_blocks u blocks).entries)
+
+pub on_ok : {T E P Q : Type 0} (r : Result T E) → (P → Q) → OnOk r P → OnOk r Q
+on_ok (Ok x) f h = f h
+on_ok (Err e) f h = tt

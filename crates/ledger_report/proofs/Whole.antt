@@ -1,10 +1,13 @@
 -- A report as it is put together.
-use Rattle.std.proofs.Common.{◌≡◌, ℕ, List, ◌++◌, map, length, refl, sym, ap, ◌∙◌, append_assoc}
+use Rattle.std.proofs.Common.{◌≡◌, ℕ, List, ◌++◌, length, sym, ap, ◌∙◌, append_assoc}
 use Rattle.std.specs.List.{flat_map}
+use Rattle.fab_base.specs.Limits.{Roster}
+use Rattle.fab_base.specs.Table.{empty_state}
 use Rattle.fab_rules.specs.declared.blocks.Block.{Block}
 use Rattle.fab_rules.specs.Ledger.{run, start_of, state_after_blocks}
 use Rattle.world_laws.specs.World.{longest}
 use Rattle.run_words.specs.declared.ends.End.{End}
+use Rattle.run_words.specs.declared.logs.Trace.{Trace}
 use Rattle.run_words.specs.declared.logs.Transcript.{Transcript}
 use Rattle.run_worlds.specs.Scripts.{roster_of, makers_of}
 use Rattle.run_worlds.specs.Worlds.{ledgers_in}
@@ -15,7 +18,7 @@ use Rattle.ledger_report.specs.Replayed.{ledger_text, longest_after}
 use Rattle.ledger_report.specs.Walking.{run_text}
 use Rattle.ledger_report.proofs.Replicas.{run_told}
 
-pub is_report : (t : Transcript) (end : End) → IsRunOf t.script t
+is_report : (t : Transcript) (end : End) → IsRunOf t.script t
     → head_line t.script.sizes ++ flat_map (ledger_text (roster_of t.script)) t.traces
     ++ run_text t.traces (start_of (roster_of t.script)) (longest_after (roster_of t.script) t.traces) ++ end_line end
     ≡ report_text t end
@@ -28,3 +31,18 @@ is_report t end h =
     (λ i. head_line t.script.sizes ++ sym told.lines i ++ run_text t.traces (start_of r) (longest (sym told.ledgers i)) ++ end_line end)
     ∙ ap (λ x. x ++ end_line end)
     (sym (append_assoc front (blocks (longest (ledgers_in (makers_of t.script) t.traces))) (table (longest (ledgers_in (makers_of t.script) t.traces)))))
+
+-- ---- by what each call adds
+
+pub put_together : (t : Transcript) (end : End) (r : Roster) (traces : List Trace) (sizes head ledgers longest text : List ℕ) → IsRunOf t.script t
+    → r ≡ roster_of t.script → traces ≡ t.traces → sizes ≡ t.script.sizes → head ≡ head_line sizes
+    → ledgers ≡ head ++ flat_map (ledger_text r) traces
+    → longest ≡ ledgers ++ run_text traces (empty_state (length r.homes)) (longest_after r traces)
+    → text ≡ longest ++ end_line end → text ≡ report_text t end
+put_together t end r traces sizes head ledgers longest text run a b c d e f g =
+    g
+    ∙ ap (λ l. l ++ end_line end)
+    (f ∙ ap (λ l. l ++ run_text traces (empty_state (length r.homes)) (longest_after r traces)) (e ∙ ap (λ l. l ++ flat_map (ledger_text r) traces) d))
+    ∙ (λ i. head_line (c i) ++ flat_map (ledger_text (a i)) (b i)
+    ++ run_text (b i) (empty_state (length (a i).homes)) (longest_after (a i) (b i)) ++ end_line end)
+    ∙ is_report t end run

@@ -16,7 +16,6 @@ use seq_table::table;
 use std::alloc::Global;
 
 /// Adds the lines of a ledger's blocks, and then the table that they leave.
-#[tactic(auto, using(crate::proofs::Walking::lines_are))]
 fn push_rounds(
     alloc: Global,
     text: &mut Vec<u8>,
