@@ -8,3 +8,4 @@ pub mod Signed
 pub mod Growing
 pub mod Going
 pub mod Heard
+pub mod Emitting

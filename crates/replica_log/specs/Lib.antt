@@ -2,4 +2,5 @@ pub mod Entering
 pub mod Keeping
 pub mod Logs
 pub mod Posting
+pub mod Sending
 pub mod Walking

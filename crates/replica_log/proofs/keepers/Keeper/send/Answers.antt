@@ -1,0 +1,42 @@
+use Rattle.std.proofs.Common.{refl, ap, ◌∙◌}
+use Rattle.replica_log.specs.Keeping.{maker_of}
+use Rattle.lms_tree.specs.Signatures.{tree_signature_len}
+use Rattle.replica_log.proofs.Emitting.{IsReady, is_ready, parcels_are, entered}
+use Rattle.replica_log.proofs.keepers.Keeper.send.Given
+use Rattle.replica_log.proofs.keepers.Keeper.send.Goals as goal
+
+ready : (g : Given.Over) (c : goal.After-seal g)
+    → IsReady (maker_of g.S.Signer.limit g.S.Signer.gives c.args.self.now) c.args.self.now.journal.items c.args.self.now.clock c.args.self.now.signed.items c.args.self.now.numbers
+    (g.S.Signer.made c.args.self.now.signer) c.in_ok-out.out.content c.in_ok-out.out.parcels c.in_ok-sig.sig
+ready g c =
+    let k = c.args.self.now in
+    is_ready (maker_of g.S.Signer.limit g.S.Signer.gives k) k.journal.items k.clock k.signed.items k.numbers (g.S.Signer.made k.signer) k.core
+    c.in_ok-out.out.content c.in_ok-out.out.parcels c.in_ok-sig.sig (tree_signature_len (g.S.Signer.key k.signer).ots (g.S.Signer.key k.signer).height)
+    c.requires.kept c.requires.live c.requires.waits c.requires.unspent c.in_ok-out.ensures.content c.in_ok-out.ensures.parcels
+    (c.in_ok-sig.ensures.signed.0 ∙ ap (g.S.Signer.gives k.signer (g.S.Signer.made k.signer)) c.as_slice.ensures) c.in_ok-sig.ensures.len
+
+pub returns-clause-parcels : goal.returns-clause-parcels
+returns-clause-parcels g c =
+    let k = c.args.self.now in
+    c.seal.ensures.parcels
+    ∙ parcels_are (maker_of g.S.Signer.limit g.S.Signer.gives k) k.journal.items k.clock k.signed.items k.numbers (g.S.Signer.made k.signer)
+    c.in_ok-out.out.content c.in_ok-out.out.parcels c.in_ok-sig.sig (ready g c)
+
+pub returns-clause-enters : goal.returns-clause-enters
+returns-clause-enters g c =
+    let k = c.args.self.now in
+    entered g.S.Signer.limit g.S.Signer.made g.S.Signer.gives k _ c.seal.new.self c.in_ok-out.out.content c.in_ok-out.out.parcels c.in_ok-sig.sig
+    (ready g c) c.requires.live
+    (record {
+      me = refl;
+      members = refl;
+      ring = refl;
+      core = refl;
+      journal = c.reserve.ensures.items;
+      clock = refl;
+      earlier = c.reserve-2.ensures.items;
+      limit_is = c.sign.ensures.same.1;
+      gives_is = c.sign.ensures.same.2;
+      makes = c.in_ok-sig.ensures.signed.1;
+    })
+    c.seal.ensures.sealed
