@@ -9,3 +9,9 @@ pub mod Copies
 pub mod Quiet
 pub mod Stillness
 pub mod Settled
+pub mod Contents
+pub mod Signed
+pub mod Forging
+pub mod Clashes
+pub mod Following
+pub mod Lawfulness

@@ -4,12 +4,18 @@
 //! the run ended. Both look at the transcript alone. The words are those of `run_worlds`.
 #![tactic(auto)]
 
+mod asking;
 mod auditing;
+mod content_sets;
 mod cores;
 mod counting;
 mod effects;
 mod ending;
+mod makers;
+mod meetings;
 mod settling;
+mod signers;
+mod stops;
 
 pub use auditing::audit;
 pub use ending::end_of;
