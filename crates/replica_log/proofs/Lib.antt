@@ -9,3 +9,4 @@ pub mod Growing
 pub mod Going
 pub mod Heard
 pub mod Emitting
+pub mod Traces

@@ -1,5 +1,6 @@
 pub mod Entering
 pub mod Keeping
+pub mod Leaving
 pub mod Logs
 pub mod Posting
 pub mod Sending

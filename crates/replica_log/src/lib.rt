@@ -5,6 +5,7 @@ mod acting;
 mod entering;
 mod hearing;
 mod keepers;
+mod leaving;
 mod logs;
 mod making;
 mod moving;
