@@ -10,3 +10,5 @@ pub mod Going
 pub mod Heard
 pub mod Emitting
 pub mod Traces
+pub mod Acted
+pub mod Asked

@@ -8,6 +8,9 @@ use Rattle.replica_core.specs.declared.events.Event.{Event}
 use Rattle.run_words.specs.declared.logs.Entry.{Entry}
 use Rattle.run_words.specs.Journal.{Maker, state, clock, parcels_of, signed_of, IsMade, AreSound}
 use Rattle.run_words.specs.Lawful.{IsKeyed}
+use Rattle.run_words.specs.Acts.{Acted}
+use Rattle.run_words.specs.declared.party.Act.{Act}
+use Rattle.run_words.specs.declared.party.Told.{Told}
 use Rattle.replica_log.specs.Posting.{Counts, AreNumbers}
 use Rattle.replica_log.specs.declared.keepers.Keeper.{Keeper}
 
@@ -93,3 +96,14 @@ IsMoving event entry = ⊥
 abbrev pub IsHearing : Entry → Message → Type 0
 IsHearing (Entry.Heard origin x) heard = x ≡ heard
 IsHearing entry heard = ⊥
+
+-- ---- acts
+
+-- what is told of an act, and what it leaves: a core after its journal
+pub record HasActed {S : Type 0} (limit made : S → ℕ) (gives : S → ℕ → List ℕ → List ℕ) (old : Keeper S) (act : Act) (told : Told) (now : Keeper S) : Type 0 where
+  pub acted : Acted (maker_of limit gives old) old.journal.items act told now.journal.items
+  pub whole : IsLiveThen limit made gives old now.journal.items now
+
+abbrev pub IsEmit : Act → Type 0
+IsEmit Act.Emit = Unit {0}
+IsEmit act = ⊥

@@ -1,3 +1,4 @@
+pub mod Acting
 pub mod Entering
 pub mod Keeping
 pub mod Leaving

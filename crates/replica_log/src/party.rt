@@ -5,6 +5,7 @@ ghost use Rattle.run_words.specs.Acts.{IsFor, Acted, StaysOpen, IsTraceBut};
 ghost use Rattle.run_words.specs.Runs.{trace_of};
 ghost use Rattle.replica_log.specs.Logs.{made_of};
 
+use crate::acting::told_anyway;
 use crate::logs::ReplicaLog;
 use fab_base::NoMemory;
 use lms_tree::Signer;
@@ -34,13 +35,9 @@ impl<S: Signer + Drop> Party for ReplicaLog<S> {
         if self.shut {
             return Told::NoMemory;
         }
-        match self.keeper.act(act) {
-            Ok(told) => told,
-            Err(NoMemory) => {
-                self.shut = true;
-                Told::NoMemory
-            }
-        }
+        let told = self.keeper.act(act);
+        self.shut = told.is_err();
+        told_anyway(told)
     }
 
     fn trace(self) -> Result<Trace, NoMemory> {

@@ -1,0 +1,80 @@
+-- What an act of the core does to the journal is what an act of a party does.
+use Rattle.std.proofs.Common.{◌≡◌, Bool, cond, List, [], ◌∷◌, ◌++◌, Result, Ok, Err, refl, sym, ap, subst, ◌∙◌}
+use Rattle.std.specs.Prelude.{ℕ, IfOk}
+use Rattle.fab_base.specs.declared.answers.Answer.{Answer}
+use Rattle.fab_machine.specs.Step as machine
+use Rattle.fab_machine.specs.Step.{makes_entry}
+use Rattle.run_words.specs.declared.movers.Mover.{Mover}
+use Rattle.run_words.specs.declared.logs.Entry.{Entry}
+use Rattle.run_words.specs.declared.party.Act.{Act}
+use Rattle.run_words.specs.declared.party.Told.{Told}
+use Rattle.run_words.specs.Journal.{Maker, moves, entry_of}
+use Rattle.run_words.specs.Acts.{answer_to, would, made_by, told_of}
+use Rattle.replica_log.specs.Acting.{told_by}
+use Rattle.replica_log.specs.Keeping.{maker_of, Moves, HasActed}
+use Rattle.replica_log.specs.declared.keepers.Keeper.{Keeper}
+
+-- an act, the core's event of it and its entry
+record IsBy (m : Maker) (journal : List Entry) (act : Act) (event : machine.Event) (e : Entry) : Type 0 where
+  makes : would m journal act ≡ makes_entry (answer_to m journal event)
+  entry : made_by m journal act ≡ e
+  told : told_of m journal act ≡ Told.Core (answer_to m journal event)
+
+batch : (m : Maker) (journal : List Entry) → IsBy m journal Act.Batch machine.Event.Batch Entry.Proposed
+unfolding moves
+batch m journal = record { makes = refl; entry = refl; told = refl }
+
+nudge : (m : Maker) (journal : List Entry) → IsBy m journal Act.Nudge machine.Event.Nudge Entry.Nudged
+unfolding moves
+nudge m journal = record { makes = refl; entry = refl; told = refl }
+
+execute : (m : Maker) (journal : List Entry) → IsBy m journal Act.Execute machine.Event.Execute Entry.Executed
+unfolding moves
+execute m journal = record { makes = refl; entry = refl; told = refl }
+
+module _ {S : Type 0} {E : Type 0} (limit made : S → ℕ) (gives : S → ℕ → List ℕ → List ℕ) (old now : Keeper S) where
+  abbrev HaveActed : Act → Result Told E → Type 0
+  HaveActed act t = IfOk t (λ told. HasActed limit made gives old act told now)
+
+  acted_by : (act : Act) (event : machine.Event) (e : Entry) → IsBy (maker_of limit gives old) old.journal.items act event e → (r : Result Answer E)
+      → IfOk r (λ answer. answer ≡ answer_to (maker_of limit gives old) old.journal.items event)
+      → IfOk r (λ answer. Moves limit made gives old e (makes_entry answer) now)
+      → HaveActed act (told_by r)
+  acted_by act event e by (Err x) a v = tt
+  acted_by act event e by (Ok answer) a v =
+      let moved : makes_entry answer ≡ would (maker_of limit gives old) old.journal.items act = ap makes_entry a ∙ sym by.makes in
+      record {
+        acted = record {
+          grows = v.whole.journal_is
+              ∙ ap (λ (b : Bool). cond b (old.journal.items ++ e ∷ []) old.journal.items) moved
+              ∙ ap (λ (x : Entry). cond (would (maker_of limit gives old) old.journal.items act) (old.journal.items ++ x ∷ []) old.journal.items) (sym by.entry);
+          tells = ap Told.Core a ∙ sym by.told;
+        };
+        whole = record { whole = record { same = v.whole.same; journal_is = refl; kept = v.whole.kept }; live = v.live };
+      }
+
+  acted_as : (act done : Act) (event : machine.Event) (e : Entry) → act ≡ done → IsBy (maker_of limit gives old) old.journal.items done event e
+      → (r : Result Answer E) (t : Result Told E) → t ≡ told_by r
+      → IfOk r (λ answer. answer ≡ answer_to (maker_of limit gives old) old.journal.items event)
+      → IfOk r (λ answer. Moves limit made gives old e (makes_entry answer) now)
+      → HaveActed act t
+  acted_as act done event e is by r t told a v =
+      subst (HaveActed act) (sym told) (subst (λ (x : Act). HaveActed x (told_by r)) (sym is) (acted_by done event e by r a v))
+
+  pub batch_acted : (act : Act) (r : Result Answer E) (t : Result Told E) → act ≡ Act.Batch → t ≡ told_by r
+      → IfOk r (λ answer. answer ≡ answer_to (maker_of limit gives old) old.journal.items machine.Event.Batch)
+      → IfOk r (λ answer. Moves limit made gives old Entry.Proposed (makes_entry answer) now)
+      → HaveActed act t
+  batch_acted act r t is told = acted_as act Act.Batch machine.Event.Batch Entry.Proposed is (batch (maker_of limit gives old) old.journal.items) r t told
+
+  pub nudge_acted : (act : Act) (r : Result Answer E) (t : Result Told E) → act ≡ Act.Nudge → t ≡ told_by r
+      → IfOk r (λ answer. answer ≡ answer_to (maker_of limit gives old) old.journal.items machine.Event.Nudge)
+      → IfOk r (λ answer. Moves limit made gives old Entry.Nudged (makes_entry answer) now)
+      → HaveActed act t
+  nudge_acted act r t is told = acted_as act Act.Nudge machine.Event.Nudge Entry.Nudged is (nudge (maker_of limit gives old) old.journal.items) r t told
+
+  pub execute_acted : (act : Act) (r : Result Answer E) (t : Result Told E) → act ≡ Act.Execute → t ≡ told_by r
+      → IfOk r (λ answer. answer ≡ answer_to (maker_of limit gives old) old.journal.items machine.Event.Execute)
+      → IfOk r (λ answer. Moves limit made gives old Entry.Executed (makes_entry answer) now)
+      → HaveActed act t
+  execute_acted act r t is told = acted_as act Act.Execute machine.Event.Execute Entry.Executed is (execute (maker_of limit gives old) old.journal.items) r t told

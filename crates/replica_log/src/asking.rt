@@ -1,0 +1,35 @@
+//! Whether an act would make an entry.
+ghost use Rattle.std.specs.Prelude.{◌≡◌};
+ghost use Rattle.run_words.specs.Journal.{moves};
+ghost use Rattle.run_words.specs.declared.movers.Mover as movers;
+ghost use Rattle.replica_log.specs.Keeping.{maker_of, Keeps, IsLive};
+
+use crate::keepers::Keeper;
+use lms_tree::Signer;
+use replica_core as cores;
+use run_words::Mover;
+
+impl<S: Signer + Drop> Keeper<S> {
+    /// Whether Emit would make an entry: whatever waits is signed by the replica itself, so a leaf must be left.
+    fn can_emit(&self) -> bool
+        requires kept { Keeps S.limit S.made S.gives self.now }
+        requires live { IsLive S.limit S.gives self.now }
+        ensures { result ≡ moves (maker_of S.limit S.gives self.now) self.now.journal.items movers.Mover.Emit }
+    {
+        self.core.moves(cores::Mover::Emit) && !self.signer.spent()
+    }
+
+    /// Whether an act would make an entry.
+    pub(crate) fn moves(&self, mover: Mover) -> bool
+        requires kept { Keeps S.limit S.made S.gives self.now }
+        requires live { IsLive S.limit S.gives self.now }
+        ensures { result ≡ moves (maker_of S.limit S.gives self.now) self.now.journal.items mover }
+    {
+        match mover {
+            Mover::Batch => self.core.moves(cores::Mover::Batch),
+            Mover::Nudge => self.core.moves(cores::Mover::Nudge),
+            Mover::Emit => self.can_emit(),
+            Mover::Execute => self.core.moves(cores::Mover::Execute),
+        }
+    }
+}
