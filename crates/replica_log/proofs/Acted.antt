@@ -4,11 +4,10 @@ use Rattle.std.specs.Prelude.{ℕ, IfOk}
 use Rattle.fab_base.specs.declared.answers.Answer.{Answer}
 use Rattle.fab_machine.specs.Step as machine
 use Rattle.fab_machine.specs.Step.{makes_entry}
-use Rattle.run_words.specs.declared.movers.Mover.{Mover}
 use Rattle.run_words.specs.declared.logs.Entry.{Entry}
 use Rattle.run_words.specs.declared.party.Act.{Act}
 use Rattle.run_words.specs.declared.party.Told.{Told}
-use Rattle.run_words.specs.Journal.{Maker, moves, entry_of}
+use Rattle.run_words.specs.Journal.{Maker, moves}
 use Rattle.run_words.specs.Acts.{answer_to, would, made_by, told_of}
 use Rattle.replica_log.specs.Acting.{told_by}
 use Rattle.replica_log.specs.Keeping.{maker_of, Moves, HasActed}

@@ -1,12 +1,11 @@
 -- Whether an act would make an entry, by the core and the signer.
-use Rattle.std.proofs.Common.{◌≡◌, ℕ, ◌≤◌, Bool, true, false, not, ◌&&◌, nat_le, List, [], ◌∷◌, ◌++◌, length, cond, ◌+◌, append_assoc, append-nil, length-append, Option, Some, None, inl, refl, sym, ap, subst, ◌∙◌, arith}
+use Rattle.std.proofs.Common.{◌≡◌, ℕ, ◌≤◌, Bool, true, false, not, ◌&&◌, nat_le, List, [], ◌∷◌, ◌++◌, length, cond, ◌+◌, append_assoc, append-nil, length-append, Some, inl, refl, sym, ap, subst, ◌∙◌, arith}
 use Rattle.std.specs.Prelude.{IsTrue, ◌↔◌}
 use Rattle.std.proofs.lemmas.Bool.Decides.{nat_tests}
 use Rattle.fab_base.specs.declared.answers.Item.{Item}
 use Rattle.fab_rules.specs.Lists.{In, first_of}
 use Rattle.fab_machine.specs.State.{Replica}
-use Rattle.fab_machine.specs.Step as machine
-use Rattle.fab_machine.specs.Step.{Event, makes_entry, emit_step, first}
+use Rattle.fab_machine.specs.Step.{makes_entry, emit_step, first}
 use Rattle.replica_core.specs.Cores.{Machine, moves_by}
 use Rattle.replica_core.specs.declared.events.Mover as cores
 use Rattle.run_words.specs.declared.movers.Mover.{Mover}

@@ -1,6 +1,6 @@
 -- What the core hears is entered, and moves the clock.
-use Rattle.std.proofs.Common.{◌≡◌, ℕ, ◌+◌, Bool, true, cond, List, [], ◌∷◌, ◌++◌, length, Result, Ok, Err, refl, sym, ap, subst, ◌∙◌, append-nil, add-zero}
-use Rattle.std.specs.Prelude.{IfOk, OnOk, OnErr}
+use Rattle.std.proofs.Common.{◌≡◌, ℕ, ◌+◌, Bool, cond, List, [], ◌∷◌, ◌++◌, length, Result, Ok, Err, refl, sym, ap, subst, ◌∙◌, append-nil, add-zero}
+use Rattle.std.specs.Prelude.{IfOk, OnOk}
 use Rattle.std.specs.Result.{is_ok}
 use Rattle.fab_base.specs.declared.answers.Answer.{Answer}
 use Rattle.fab_base.specs.declared.messages.Message.{Message}
@@ -16,7 +16,7 @@ use Rattle.run_words.specs.declared.logs.Parcel.{Parcel}
 use Rattle.run_words.specs.Journal.{Maker, Walk, event_of, tick, added, signed_by, walk, parcels_of, IsNext, IsHeardSound}
 use Rattle.replica_log.specs.Entering.{has_entry}
 use Rattle.replica_log.specs.Posting.{Counts, AreNumbers}
-use Rattle.replica_log.specs.Keeping.{IsKept, core_after, maker_of, Keeps, IsLive, Stays, Enters, IsHearing}
+use Rattle.replica_log.specs.Keeping.{IsKept, core_after, maker_of, IsLive, Enters, IsHearing}
 use Rattle.replica_log.specs.declared.keepers.Keeper.{Keeper}
 use Rattle.replica_log.proofs.Growing.{IsMore, kept_more, core_more}
 

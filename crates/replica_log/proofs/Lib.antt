@@ -12,3 +12,4 @@ pub mod Emitting
 pub mod Traces
 pub mod Acted
 pub mod Asked
+pub mod Opened

@@ -107,3 +107,8 @@ pub record HasActed {S : Type 0} (limit made : S → ℕ) (gives : S → ℕ →
 abbrev pub IsEmit : Act → Type 0
 IsEmit Act.Emit = Unit {0}
 IsEmit act = ⊥
+
+-- a refusal of memory that leaves a core after its journal is told of Emit alone
+abbrev pub MayBeTold : Act → Told → Type 0
+MayBeTold act Told.NoMemory = IsEmit act
+MayBeTold act told = Unit {0}

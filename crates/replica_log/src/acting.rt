@@ -3,7 +3,7 @@ ghost use Rattle.std.specs.Prelude.{◌≡◌, IfOk, OnErr, IsTrue};
 ghost use Rattle.std.specs.Result.{is_ok};
 ghost use Rattle.run_words.specs.Acts.{IsFor};
 ghost use Rattle.replica_log.specs.Acting.{told_by, told_anyway};
-ghost use Rattle.replica_log.specs.Keeping.{maker_of, Keeps, IsLive, Stays, HasActed, IsEmit};
+ghost use Rattle.replica_log.specs.Keeping.{maker_of, Keeps, IsLive, Stays, HasActed, MayBeTold, IsEmit};
 
 use crate::keepers::Keeper;
 use fab_base::{Answer, NoMemory};
@@ -38,6 +38,7 @@ impl<S: Signer + Drop> Keeper<S> {
         requires live { IsLive S.limit S.gives self.old }
         requires members { IsFor (maker_of S.limit S.gives self.old) act }
         ensures acted { IfOk result (λ told. HasActed S.limit S.made S.gives self.old act told self.new) }
+        ensures may { IfOk result (λ told. MayBeTold act told) }
         ensures stays { OnErr result (Stays S.limit S.made S.gives self.old self.new) }
         ensures emits { IsEmit act → IsTrue (is_ok result) }
     {

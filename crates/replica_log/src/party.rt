@@ -41,6 +41,6 @@ impl<S: Signer + Drop> Party for ReplicaLog<S> {
     }
 
     fn trace(self) -> Result<Trace, NoMemory> {
-        Err(NoMemory)
+        self.keeper.leave()
     }
 }

@@ -1,5 +1,4 @@
-use Rattle.std.proofs.Common.{◌≡◌, Bool, not, ◌&&◌, sym, ap, ◌∙◌}
-use Rattle.run_words.specs.Journal.{moves}
+use Rattle.std.proofs.Common.{Bool, not, ◌&&◌, sym, ap, ◌∙◌}
 use Rattle.replica_log.specs.Keeping.{maker_of}
 use Rattle.replica_log.proofs.Asked.{emit_moves, still}
 use Rattle.replica_log.proofs.keepers.Keeper.can_emit.Goals as goal

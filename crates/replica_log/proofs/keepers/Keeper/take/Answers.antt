@@ -1,4 +1,4 @@
-use Rattle.std.proofs.Common.{◌≡◌, refl, sym, ap, subst, ◌∙◌}
+use Rattle.std.proofs.Common.{refl, ap, subst}
 use Rattle.bft_msg.specs.Judged.{Judged}
 use Rattle.bft_verify.specs.Ring.{Ring}
 use Rattle.bft_verify.specs.Sound.{IsSound}
