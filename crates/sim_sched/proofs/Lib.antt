@@ -6,5 +6,6 @@ pub mod Bridge
 pub mod Giving
 pub mod Picked
 pub mod Ready
+pub mod FewerCopies
 pub mod QuietMoments
 pub mod Opening

@@ -5,7 +5,7 @@ use Rattle.run_words.specs.declared.logs.Pending.{Pending}
 use Rattle.run_words.specs.Journal.{moves}
 use Rattle.run_words.specs.Runs.{hearings, Step}
 use Rattle.sim_sched.specs.declared.seats.Choice.{Choice}
-use Rattle.sim_sched.specs.Seats.{SeatView, can, seat_steps, all_steps, choice_behind_is, choice_after, IsChosen, IsPossible, Finds, AllOpen}
+use Rattle.sim_sched.specs.Seats.{SeatView, can, seat_steps, all_steps, choice_after, IsChosen, IsPossible, Finds, AllOpen}
 use Rattle.sim_sched.proofs.SeatFacts.{hearings_long}
 
 pub in_front : {X : Type 0} (a b : List X) (k : ℕ) (d : X) → k < length a → get_or (a ++ b) k d ≡ get_or a k d
@@ -76,15 +76,34 @@ chosen_event s k d h g =
     (events_at s (moves s.maker s.journal Mover.Batch) (moves s.maker s.journal Mover.Emit) (moves s.maker s.journal Mover.Execute)
     (k - length s.way) d short)
 
-behind_possible : (s : SeatView) (e : Bool) (k : ℕ) → IsPossible s (choice_behind_is e k)
-behind_possible s true zero = tt
-behind_possible s true (suc k) = tt
-behind_possible s false k = tt
+events_possible : (s : SeatView) (b e x : Bool) (n : ℕ) → moves s.maker s.journal Mover.Batch ≡ b → moves s.maker s.journal Mover.Emit ≡ e
+    → moves s.maker s.journal Mover.Execute ≡ x
+    → n < length (event s b Mover.Batch ++ (event s e Mover.Emit ++ event s x Mover.Execute)) → IsPossible s (choice_after b e n)
+events_possible s true e x zero p q r h = p
+events_possible s true true x (suc zero) p q r h = q
+events_possible s true true true (suc (suc zero)) p q r h = r
+events_possible s true true true (suc (suc (suc n))) p q r h = absurd (omega arith)
+events_possible s true true false (suc (suc n)) p q r h = absurd (omega arith)
+events_possible s true false true (suc zero) p q r h = r
+events_possible s true false true (suc (suc n)) p q r h = absurd (omega arith)
+events_possible s true false false (suc n) p q r h = absurd (omega arith)
+events_possible s false true x zero p q r h = q
+events_possible s false true true (suc zero) p q r h = r
+events_possible s false true true (suc (suc n)) p q r h = absurd (omega arith)
+events_possible s false true false (suc n) p q r h = absurd (omega arith)
+events_possible s false false true zero p q r h = r
+events_possible s false false true (suc n) p q r h = absurd (omega arith)
+events_possible s false false false n p q r h = absurd (omega arith)
 
-pub event_possible : (s : SeatView) (b e : Bool) (k : ℕ) → IsPossible s (choice_after b e k)
-event_possible s true e zero = tt
-event_possible s true e (suc k) = behind_possible s e k
-event_possible s false e k = behind_possible s e k
+pub event_possible : (s : SeatView) (k : ℕ) → length s.way ≤ k → k < length (seat_steps s)
+    → IsPossible s (choice_after (moves s.maker s.journal Mover.Batch) (moves s.maker s.journal Mover.Emit) (k - length s.way))
+unfolding seat_steps
+event_possible s k h g =
+    let tail : List Step = can s Mover.Batch ++ (can s Mover.Emit ++ can s Mover.Execute) in
+    let n = hearings_long s.maker 0 s.way in
+    let l : length (seat_steps s) ≡ length (hearings s.maker 0 s.way) + length tail = length-append (hearings s.maker 0 s.way) tail in
+    events_possible s (moves s.maker s.journal Mover.Batch) (moves s.maker s.journal Mover.Emit) (moves s.maker s.journal Mover.Execute)
+    (k - length s.way) refl refl refl (omega arith)
 
 -- ---- over all seats
 

@@ -11,7 +11,7 @@ use Rattle.rand_chacha.specs.ChaCha.{ChaCha}
 use Rattle.sim_sched.specs.Seats.{SeatView, seat_in}
 use Rattle.sim_sched.specs.Putting.{given_at}
 use Rattle.sim_sched.specs.Simulating.{AreRules, generator_at, IsAt, IsReady, Picked}
-use Rattle.sim_sched.specs.Playing.{IsReached, IsIn, IsCut, NudgedBy, Nudged, Played}
+use Rattle.sim_sched.specs.Playing.{IsReached, IsIn, IsCut, EnteredBy, Entered, NudgedBy, Nudged, Played}
 use Rattle.sim_sched.specs.declared.nudging.Nudges.{Nudges}
 use Rattle.sim_sched.proofs.Picking.{long_map}
 use Rattle.sim_sched.proofs.Picked.{picks_give}
@@ -151,99 +151,163 @@ nudge_whole r key views g entries place moved h (run, w, p, held) =
 pub record NudgesSo (members : Roster) (ring : Ring) (ids : List ReplicaId) (first views : List SeatView) (before turns entries place : ℕ) (moved : Bool) : Type 0 where
   pub ready : IsReady members ring ids views
   pub within : entries ≤ turns
+  pub since : before ≤ entries
+  pub more : moved ≡ true → before < entries
   pub nudges : (r : Rules) (key : List ℕ) (g : ChaCha) → AreRules r key turns → IsIn r key (Phase.Nudging r.makers false) first g before
       → IsIn r key (Phase.Nudging (drop place r.makers) moved) views g entries
 
--- ---- the loop over events
+-- ---- picking until an entry is made
+
+abbrev at_in : (r : Rules) (key : List ℕ) (run : Run) (views : List SeatView) (g : ChaCha) (entries : ℕ) → IsReached r run
+    → IsAt r key run views g entries → IsIn r key Phase.Pick views g entries
+at_in r key run views g entries w a =
+    (run, w, a.phase, record { seated = a.seated; placed = a.placed; counted = a.counted })
+
+abbrev in_at : (r : Rules) (key : List ℕ) (views : List SeatView) (g : ChaCha) (entries : ℕ) (i : IsIn r key Phase.Pick views g entries)
+    → IsAt r key i.0 views g entries
+in_at r key views g entries (run, w, p, h) = record { phase = p; seated = h.seated; placed = h.placed; counted = h.counted }
+
+pub start_in : (r : Rules) (key : List ℕ) (views : List SeatView) (g : ChaCha) → IsAt r key (start r) views g 0
+    → IsIn r key Phase.Pick views g 0
+start_in r key views g a = at_in r key (start r) views g 0 (zero, refl) a
+
+-- a choice of any run that isn't spent, with the run reached
+picked_in : (r : Rules) (key : List ℕ) (turns entries : ℕ) (views now : List SeatView) (g h : ChaCha) (grew : Bool) → AreRules r key turns
+    → entries < turns → Picked views g (Some grew) now h → IsIn r key Phase.Pick views g entries
+    → IsIn r key Phase.Pick now h (entries + cond grew 1 0)
+picked_in r key turns entries views now g h grew u l x (run, w, p, held) =
+    let rules : AreRules r key r.turns = record { distinct = u.distinct; word_so = u.word_so; turns_so = refl } in
+    let d = x r key run entries rules (in_at r key views g entries (run, w, p, held)) (spent_not r run turns entries u.turns_so held.counted l) in
+    at_in r key (next r run) now h (entries + cond grew 1 0) (reached_next r run w) d
+
+-- no step can move: the quiet moment begins
+quiet_in : (r : Rules) (key : List ℕ) (turns entries : ℕ) (views now : List SeatView) (g h : ChaCha) → AreRules r key turns
+    → entries < turns → Picked views g None now h → IsIn r key Phase.Pick views g entries
+    → IsIn r key (Phase.Nudging r.makers false) now h entries
+quiet_in r key turns entries views now g h u l x (run, w, p, held) =
+    let rules : AreRules r key r.turns = record { distinct = u.distinct; word_so = u.word_so; turns_so = refl } in
+    let s = spent_not r run turns entries u.turns_so held.counted l in
+    let d = x r key run entries rules (in_at r key views g entries (run, w, p, held)) s in
+    let quiet_run : Run = record run { phase = Phase.Nudging r.makers false } in
+    let e : next r run ≡ quiet_run =
+    ap (next_in r run) p ∙ ap (λ b. cond b (record run { phase = Phase.Ended true }) (pick_from r run (steps r run))) s
+    ∙ ap (pick_from r run) d.0 in (
+      quiet_run,
+      subst (λ (y : Run). IsReached r y) e (reached_next r run w),
+      refl,
+      record { seated = d.1 ∙ held.seated; placed = d.2 ∙ held.placed; counted = held.counted },
+    )
+
+-- what the loop over refused copies keeps
+pub record PicksSo (members : Roster) (ring : Ring) (ids : List ReplicaId) (first : List SeatView) (start_at : ChaCha) (views : List SeatView) (g : ChaCha) : Type 0 where
+  pub ready : IsReady members ring ids views
+  pub picks : (r : Rules) (key : List ℕ) (turns entries : ℕ) → AreRules r key turns → entries < turns
+      → IsIn r key Phase.Pick first start_at entries → IsIn r key Phase.Pick views g entries
+
+pub picks_first : (members : Roster) (ring : Ring) (ids : List ReplicaId) (first : List SeatView) (start_at : ChaCha)
+    → IsReady members ring ids first → PicksSo members ring ids first start_at first start_at
+picks_first members ring ids first start_at q = record { ready = q; picks = λ r key turns entries u l i. i }
+
+pub picks_refused : (members : Roster) (ring : Ring) (ids : List ReplicaId) (first : List SeatView) (start_at : ChaCha) (views now : List SeatView) (g h : ChaCha) (grew : Bool)
+    → grew ≡ false → IsReady members ring ids now → Picked views g (Some grew) now h → PicksSo members ring ids first start_at views g
+    → PicksSo members ring ids first start_at now h
+picks_refused members ring ids first start_at views now g h grew e q x s = record {
+  ready = q;
+  picks = λ r key turns entries u l i.
+      subst (λ n. IsIn r key Phase.Pick now h n) (ap (λ b. entries + cond b 1 0) e ∙ add-zero entries)
+      (picked_in r key turns entries views now g h grew u l x (s.picks r key turns entries u l i));
+}
+
+pub picks_entered : (members : Roster) (ring : Ring) (ids : List ReplicaId) (first : List SeatView) (start_at : ChaCha) (views now : List SeatView) (g h : ChaCha) (grew : Bool)
+    → grew ≡ true → Picked views g (Some grew) now h → PicksSo members ring ids first start_at views g → Entered first start_at true now h
+picks_entered members ring ids first start_at views now g h grew e x s r key turns entries u l i =
+    subst (λ b. IsIn r key Phase.Pick now h (entries + cond b 1 0)) e
+    (picked_in r key turns entries views now g h grew u l x (s.picks r key turns entries u l i))
+
+pub picks_none : (members : Roster) (ring : Ring) (ids : List ReplicaId) (first : List SeatView) (start_at : ChaCha) (views now : List SeatView) (g h : ChaCha)
+    → Picked views g None now h → PicksSo members ring ids first start_at views g → Entered first start_at false now h
+picks_none members ring ids first start_at views now g h x s r key turns entries u l i =
+    quiet_in r key turns entries views now g h u l x (s.picks r key turns entries u l i)
+
+-- ---- the loop over entries
 
 pub record PlaysSo (members : Roster) (ring : Ring) (ids : List ReplicaId) (turns : ℕ) (first : List SeatView) (start_at : ChaCha) (views : List SeatView) (g : ChaCha) (entries : ℕ) : Type 0 where
   pub ready : IsReady members ring ids views
   pub within : entries ≤ turns
   pub plays : (r : Rules) (key : List ℕ) → AreRules r key turns → IsAt r key (start r) first start_at 0
-      → (run : Run) × IsReached r run × IsAt r key run views g entries
+      → IsIn r key Phase.Pick views g entries
+
+pub plays_first : (members : Roster) (ring : Ring) (ids : List ReplicaId) (turns : ℕ) (first : List SeatView) (start_at : ChaCha)
+    → IsReady members ring ids first → PlaysSo members ring ids turns first start_at first start_at 0
+plays_first members ring ids turns first start_at q = record {
+  ready = q;
+  within = omega arith;
+  plays = λ r key u a. start_in r key first start_at a;
+}
 
 pub play_spent : (members : Roster) (ring : Ring) (ids : List ReplicaId) (turns : ℕ) (first : List SeatView) (start_at : ChaCha) (views : List SeatView) (g : ChaCha) (entries : ℕ)
     → turns ≤ entries → PlaysSo members ring ids turns first start_at views g entries → Played turns first start_at true views
 play_spent members ring ids turns first start_at views g entries h s r key u a =
     let t = s.plays r key u a in
     let e : next r t.0 ≡ record t.0 { phase = Phase.Ended true } =
-    ap (next_in r t.0) t.2.phase
+    ap (next_in r t.0) t.2
     ∙ ap (λ b. cond b (record t.0 { phase = Phase.Ended true }) (pick_from r t.0 (steps r t.0)))
-    (spent_is r t.0 turns entries u.turns_so t.2.counted h) in
-    cut_here r t.0 (record t.0 { phase = Phase.Ended true }) views true t.1 e refl t.2.seated
+    (spent_is r t.0 turns entries u.turns_so t.3.counted h) in
+    cut_here r t.0 (record t.0 { phase = Phase.Ended true }) views true t.1 e refl t.3.seated
 
-pub play_some : (members : Roster) (ring : Ring) (ids : List ReplicaId) (turns : ℕ) (first : List SeatView) (start_at : ChaCha) (views now : List SeatView) (g h : ChaCha) (entries more : ℕ) (grew : Bool)
-    → entries < turns → IsReady members ring ids now → more ≡ entries + cond grew 1 0 → Picked views g (Some grew) now h
+pub play_entered : (members : Roster) (ring : Ring) (ids : List ReplicaId) (turns : ℕ) (first : List SeatView) (start_at : ChaCha) (views now : List SeatView) (g h : ChaCha) (entries more : ℕ) (entered : Bool)
+    → entered ≡ true → entries < turns → IsReady members ring ids now → more ≡ entries + 1 → Entered views g entered now h
     → PlaysSo members ring ids turns first start_at views g entries → PlaysSo members ring ids turns first start_at now h more
-play_some members ring ids turns first start_at views now g h entries more grew l q m x s = record {
+play_entered members ring ids turns first start_at views now g h entries more entered e l q m x s = record {
   ready = q;
-  within = small grew m;
+  within = omega arith;
   plays = λ r key u a.
-      let t = s.plays r key u a in
-      let rules : AreRules r key r.turns = record { distinct = u.distinct; word_so = u.word_so; turns_so = refl } in
-      let d = x r key t.0 entries rules t.2 (spent_not r t.0 turns entries u.turns_so t.2.counted l) in
-      (next r t.0, reached_next r t.0 t.1, subst (λ n. IsAt r key (next r t.0) now h n) (sym m) d);
+      let d : IsIn r key Phase.Pick now h (entries + 1) = subst (λ b. EnteredBy r key entries b now h) e
+      (x r key turns entries u l (s.plays r key u a)) in
+      subst (λ n. IsIn r key Phase.Pick now h n) (sym m) d;
 }
-  where
-    small : (b : Bool) → more ≡ entries + cond b 1 0 → more ≤ turns
-    small true e = omega arith
-    small false e = omega arith
 
--- no step can move: the quiet moment begins
-quiet_then : (r : Rules) (key : List ℕ) (turns entries : ℕ) (run : Run) (views now : List SeatView) (g h : ChaCha) → AreRules r key turns
-    → entries < turns → IsReached r run → IsAt r key run views g entries → Picked views g None now h
-    → IsIn r key (Phase.Nudging r.makers false) now h entries
-quiet_then r key turns entries run views now g h u l w a x =
-    let rules : AreRules r key r.turns = record { distinct = u.distinct; word_so = u.word_so; turns_so = refl } in
-    let s = spent_not r run turns entries u.turns_so a.counted l in
-    let d = x r key run entries rules a s in
-    let quiet_run : Run = record run { phase = Phase.Nudging r.makers false } in
-    let e : next r run ≡ quiet_run =
-    ap (next_in r run) a.phase ∙ ap (λ b. cond b (record run { phase = Phase.Ended true }) (pick_from r run (steps r run))) s
-    ∙ ap (pick_from r run) d.0 in (
-      quiet_run,
-      subst (λ (y : Run). IsReached r y) e (reached_next r run w),
-      refl,
-      record { seated = d.1 ∙ a.seated; placed = d.2 ∙ a.placed; counted = a.counted },
-    )
+-- the quiet moment, with what nudging made of it
+quiet_then : (members : Roster) (ring : Ring) (ids : List ReplicaId) (turns : ℕ) (first : List SeatView) (start_at : ChaCha) (views mid now : List SeatView) (g h : ChaCha) (entries : ℕ) (entered : Bool) (told : Nudges) (spent : Bool)
+    → entered ≡ false → entries < turns → Entered views g entered mid h → Nudged mid entries turns told now → told.spent ≡ spent
+    → PlaysSo members ring ids turns first start_at views g entries → (r : Rules) (key : List ℕ) → AreRules r key turns
+    → IsAt r key (start r) first start_at 0 → NudgedBy r key spent told now h
+quiet_then members ring ids turns first start_at views mid now g h entries entered told spent f l x n e s r key u a =
+    let i : IsIn r key (Phase.Nudging r.makers false) mid h entries = subst (λ b. EnteredBy r key entries b mid h) f
+    (x r key turns entries u l (s.plays r key u a)) in
+    subst (λ b. NudgedBy r key b told now h) e (n r key h u i)
 
-pub play_cut : (members : Roster) (ring : Ring) (ids : List ReplicaId) (turns : ℕ) (first : List SeatView) (start_at : ChaCha) (views mid now : List SeatView) (g h : ChaCha) (entries : ℕ) (told : Nudges)
-    → entries < turns → Picked views g None mid h → Nudged mid entries turns told now → told.spent ≡ true
+pub play_cut : (members : Roster) (ring : Ring) (ids : List ReplicaId) (turns : ℕ) (first : List SeatView) (start_at : ChaCha) (views mid now : List SeatView) (g h : ChaCha) (entries : ℕ) (entered : Bool) (told : Nudges)
+    → entered ≡ false → entries < turns → Entered views g entered mid h → Nudged mid entries turns told now → told.spent ≡ true
     → PlaysSo members ring ids turns first start_at views g entries → Played turns first start_at true now
-play_cut members ring ids turns first start_at views mid now g h entries told l x n e s r key u a =
-    let t = s.plays r key u a in
-    let i = quiet_then r key turns entries t.0 views mid g h u l t.1 t.2 x in
-    let d = n r key h u i in
-    subst (λ b. NudgedBy r key b told now h) e d
+play_cut members ring ids turns first start_at views mid now g h entries entered told f l x n e s r key u a =
+    quiet_then members ring ids turns first start_at views mid now g h entries entered told true f l x n e s r key u a
 
-pub play_settled : (members : Roster) (ring : Ring) (ids : List ReplicaId) (turns : ℕ) (first : List SeatView) (start_at : ChaCha) (views mid now : List SeatView) (g h : ChaCha) (entries : ℕ) (told : Nudges)
-    → entries < turns → Picked views g None mid h → Nudged mid entries turns told now → told.spent ≡ false → told.moved ≡ false
-    → PlaysSo members ring ids turns first start_at views g entries → Played turns first start_at false now
-play_settled members ring ids turns first start_at views mid now g h entries told l x n e f s r key u a =
-    let t = s.plays r key u a in
-    let i = quiet_then r key turns entries t.0 views mid g h u l t.1 t.2 x in
-    let d : NudgedBy r key false told now h = subst (λ b. NudgedBy r key b told now h) e (n r key h u i) in
-    let p : d.0.phase ≡ Phase.Nudging [] false = d.2 ∙ ap (λ b. Phase.Nudging [] b) f in
+pub play_settled : (members : Roster) (ring : Ring) (ids : List ReplicaId) (turns : ℕ) (first : List SeatView) (start_at : ChaCha) (views mid now : List SeatView) (g h : ChaCha) (entries : ℕ) (entered : Bool) (told : Nudges)
+    → entered ≡ false → entries < turns → Entered views g entered mid h → Nudged mid entries turns told now → told.spent ≡ false
+    → told.moved ≡ false → PlaysSo members ring ids turns first start_at views g entries → Played turns first start_at false now
+play_settled members ring ids turns first start_at views mid now g h entries entered told f l x n e still s r key u a =
+    let d = quiet_then members ring ids turns first start_at views mid now g h entries entered told false f l x n e s r key u a in
+    let p : d.0.phase ≡ Phase.Nudging [] false = d.2 ∙ ap (λ b. Phase.Nudging [] b) still in
     cut_here r d.0 (record d.0 { phase = Phase.Ended false }) now false d.1 (ap (next_in r d.0) p) refl d.3.seated
 
-pub play_on : (members : Roster) (ring : Ring) (ids : List ReplicaId) (turns : ℕ) (first : List SeatView) (start_at : ChaCha) (views mid now : List SeatView) (g h : ChaCha) (entries : ℕ) (told : Nudges)
-    → entries < turns → IsReady members ring ids now → told.entries ≤ turns → Picked views g None mid h → Nudged mid entries turns told now
-    → told.spent ≡ false → told.moved ≡ true → PlaysSo members ring ids turns first start_at views g entries
-    → PlaysSo members ring ids turns first start_at now h told.entries
-play_on members ring ids turns first start_at views mid now g h entries told l q w x n e f s = record {
+pub play_on : (members : Roster) (ring : Ring) (ids : List ReplicaId) (turns : ℕ) (first : List SeatView) (start_at : ChaCha) (views mid now : List SeatView) (g h : ChaCha) (entries more : ℕ) (entered : Bool) (told : Nudges)
+    → entered ≡ false → entries < turns → IsReady members ring ids now → told.entries ≤ turns → Entered views g entered mid h
+    → Nudged mid entries turns told now → told.spent ≡ false → told.moved ≡ true → more ≡ told.entries
+    → PlaysSo members ring ids turns first start_at views g entries → PlaysSo members ring ids turns first start_at now h more
+play_on members ring ids turns first start_at views mid now g h entries more entered told f l q w x n e moved m s = record {
   ready = q;
-  within = w;
+  within = omega arith;
   plays = λ r key u a.
-      let t = s.plays r key u a in
-      let i = quiet_then r key turns entries t.0 views mid g h u l t.1 t.2 x in
-      let d : NudgedBy r key false told now h = subst (λ b. NudgedBy r key b told now h) e (n r key h u i) in
-      let p : d.0.phase ≡ Phase.Nudging [] true = d.2 ∙ ap (λ b. Phase.Nudging [] b) f in
+      let d = quiet_then members ring ids turns first start_at views mid now g h entries entered told false f l x n e s r key u a in
+      let p : d.0.phase ≡ Phase.Nudging [] true = d.2 ∙ ap (λ b. Phase.Nudging [] b) moved in
       let pick_run : Run = record d.0 { phase = Phase.Pick } in
-      let z : next r d.0 ≡ pick_run = ap (next_in r d.0) p in (
+      let z : next r d.0 ≡ pick_run = ap (next_in r d.0) p in
+      subst (λ k. IsIn r key Phase.Pick now h k) (sym m) (
         pick_run,
-        subst (λ (y : Run). IsReached r y) z
-            (reached_next r d.0 d.1),
-        record { phase = refl; seated = d.3.seated; placed = d.3.placed; counted = d.3.counted },
+        subst (λ (y : Run). IsReached r y) z (reached_next r d.0 d.1),
+        refl,
+        record { seated = d.3.seated; placed = d.3.placed; counted = d.3.counted },
       );
 }
 
@@ -264,6 +328,8 @@ pub nudges_moved : (members : Roster) (ring : Ring) (ids : List ReplicaId) (firs
 nudges_moved members ring ids first views now before turns entries place more moved mark grew t k m l h x s = record {
   ready = ready_on members ring ids views now place grew h x s.ready;
   within = omega arith;
+  since = let old = s.since in omega arith;
+  more = λ q. let old = s.since in omega arith;
   nudges = λ r key g u i.
       let a = nudge_moved r key views now g entries turns place moved grew t u h l x (s.nudges r key g u i) in
       subst (λ q. IsIn r key (Phase.Nudging (drop (place + 1) r.makers) q) now g more) (sym k)
@@ -277,6 +343,8 @@ pub nudges_still : (members : Roster) (ring : Ring) (ids : List ReplicaId) (firs
 nudges_still members ring ids first views now before turns entries place more moved mark grew t k m l h x s = record {
   ready = ready_on members ring ids views now place grew h x s.ready;
   within = omega arith;
+  since = let old = s.since in omega arith;
+  more = λ q. let old = s.more (sym k ∙ q) in omega arith;
   nudges = λ r key g u i.
       let a = nudge_still r key views now g entries turns place moved grew t u h l x (s.nudges r key g u i) in
       subst (λ q. IsIn r key (Phase.Nudging (drop (place + 1) r.makers) q) now g more) (sym k)

@@ -1,5 +1,5 @@
 -- From the start of a run to its end.
-use Rattle.std.specs.Prelude.{◌≡◌, ℕ, Bool, true, false, List, [], map, length}
+use Rattle.std.specs.Prelude.{◌≡◌, ℕ, ◌+◌, ◌<◌, Bool, true, false, List, [], map, length}
 use Rattle.run_words.specs.Runs.{Rules, Run, Phase, start, after}
 use Rattle.rand_chacha.specs.ChaCha.{ChaCha}
 use Rattle.sim_sched.specs.Seats.{SeatView, seat_in}
@@ -18,6 +18,16 @@ pub record IsHeld (r : Rules) (key : List ℕ) (run : Run) (views : List SeatVie
 -- a run that is held in a phase
 abbrev pub IsIn : Rules → List ℕ → Phase → List SeatView → ChaCha → ℕ → Type 0
 IsIn r key phase views g entries = (run : Run) × IsReached r run × (run.phase ≡ phase) × IsHeld r key run views g entries
+
+-- where a step made an entry the run stands at a choice again; where no step is left its quiet moment begins
+abbrev pub EnteredBy : Rules → List ℕ → ℕ → Bool → List SeatView → ChaCha → Type 0
+EnteredBy r key entries true now h = IsIn r key Phase.Pick now h (entries + 1)
+EnteredBy r key entries false now h = IsIn r key (Phase.Nudging r.makers false) now h entries
+
+-- picking for any run that the seats stand at, until it has an entry more or no step is left
+abbrev pub Entered : List SeatView → ChaCha → Bool → List SeatView → ChaCha → Type 0
+Entered views g entered now h =
+    (r : Rules) (key : List ℕ) (turns entries : ℕ) → AreRules r key turns → entries < turns → IsIn r key Phase.Pick views g entries → EnteredBy r key entries entered now h
 
 -- a run that was cut off
 abbrev pub IsCut : Rules → Bool → List SeatView → Type 0

@@ -1,5 +1,5 @@
 -- What a run sees of a replica's seat, and what each call does to it.
-use Rattle.std.specs.Prelude.{◌≡◌, ℕ, zero, suc, Bool, true, false, cond, List, [], ◌∷◌, ◌++◌, length, Result, Ok, Err, slice_index_or, ◌<◌}
+use Rattle.std.specs.Prelude.{◌≡◌, ℕ, zero, suc, ◌+◌, Bool, true, false, cond, List, [], ◌∷◌, ◌++◌, length, Result, Ok, Err, slice_index_or, ◌<◌}
 use Rattle.std.specs.List.{remove, flat_map}
 use Rattle.fab_base.specs.declared.ids.ReplicaId.{ReplicaId}
 use Rattle.fab_base.specs.declared.messages.Message.{Message}
@@ -60,10 +60,10 @@ IsChosen s (Choice.Give w) (Step.Give m v) = (m ≡ s.maker) × (v ≡ w)
 IsChosen s (Choice.Hear j) (Step.Give m v) = ⊥
 IsChosen s (Choice.Give w) (Step.Hear m k c) = ⊥
 
--- a copy that is to be heard is there
+-- a copy that is to be heard is there; an event that is to be given would make an entry
 abbrev pub IsPossible : SeatView → Choice → Type 0
 IsPossible s (Choice.Hear k) = k < length s.way
-IsPossible s (Choice.Give mover) = Unit {0}
+IsPossible s (Choice.Give mover) = moves s.maker s.journal mover ≡ true
 
 -- the step of this number over all is this one at that place
 pub record Finds (views : List SeatView) (number place own : ℕ) : Type 0 where
@@ -101,6 +101,11 @@ is_read (Err e) = false
 -- a copy comes to those that have its receiver's id
 abbrev pub receive : List (ReplicaId × Pending) → SeatView → SeatView
 receive copies s = record s { way = s.way ++ of s.maker.id copies }
+
+-- how many copies are on their way
+abbrev pub copies : List SeatView → ℕ
+copies [] = 0
+copies (s ∷ rest) = length s.way + copies rest
 
 abbrev pub AllOpen : List SeatView → Type 0
 AllOpen [] = Unit {0}

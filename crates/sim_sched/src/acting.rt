@@ -13,7 +13,7 @@ use crate::seats::Seat;
 use bft_verify::Refusal;
 use fab_base::{Answer, NoMemory, Rows};
 use run_words::{Act, Mover, Origin, Parcels, Party, Told, Turned};
-use std::alloc::{AllocError, Global};
+use std::alloc::Global;
 
 /// The act of an event.
 fn act_of(mover: Mover) -> Act
@@ -92,7 +92,7 @@ impl<P: Party> Seat<P> {
         let copy = self.way.remove(place);
         match reader.read(copy.load.as_slice())? {
             Ok(message) => match self.party.act(Act::Hear(copy.origin, message)) {
-                Told::NoMemory => Err(AllocError),
+                Told::NoMemory => Err(NoMemory),
                 _ => Ok(true),
             },
             Err(refusal) => {
@@ -113,7 +113,7 @@ impl<P: Party> Seat<P> {
             Told::Core(answer) => Ok((makes_entry(&answer), Rows::new(alloc))),
             Told::Out(parcels) => Ok((true, parcels)),
             Told::KeySpent { .. } => Ok((false, Rows::new(alloc))),
-            Told::NoMemory => Err(AllocError),
+            Told::NoMemory => Err(NoMemory),
         }
     }
 }

@@ -3,7 +3,7 @@ ghost use Rattle.std.specs.Prelude.{◌≡◌, ℕ, ◌+◌, ◌<◌, ◌≤◌,
 ghost use Rattle.sim_sched.specs.Seats.{seen, AllOpen};
 ghost use Rattle.sim_sched.specs.Putting.{AreDistinct};
 ghost use Rattle.sim_sched.specs.Simulating.{IsReady};
-ghost use Rattle.sim_sched.specs.Playing.{Nudged, Played};
+ghost use Rattle.sim_sched.specs.Playing.{Entered, Nudged, Played};
 
 use crate::nudging::Nudges;
 use crate::reading::Reader;
@@ -12,7 +12,6 @@ use crate::stepping::{give_at, pick};
 use fab_base::{NoMemory, ReplicaId};
 use rand_chacha::ChaCha8Rng;
 use run_words::{Mover, Party};
-use std::alloc::AllocError;
 
 /// Nudges every replica, by id.
 fn nudge_all<P: Party>(
@@ -28,6 +27,7 @@ fn nudge_all<P: Party>(
     ensures ready { IfOk result (λ told. IsReady reader.now.members.now reader.now.ring.now ids.now
         (map (seen P.made P.journal P.shut) seats.new)) }
     ensures within { IfOk result (λ told. told.entries ≤ turns) }
+    ensures more { IfOk result (λ told. told.moved ≡ true → before < told.entries) }
     ensures nudged { IfOk result (λ told. Nudged (map (seen P.made P.journal P.shut) seats.old) before turns told
         (map (seen P.made P.journal P.shut) seats.new)) }
 {
@@ -53,6 +53,30 @@ fn nudge_all<P: Party>(
     })
 }
 
+/// Picks steps until one makes an entry. Whether one did, else no step is left that can move.
+///
+/// Each step before that one takes a refused copy off the way, so there are no more of them than copies on their way.
+fn pick_entry<P: Party>(
+    seats: &mut [Seat<P>],
+    ids: &[ReplicaId],
+    reader: &Reader,
+    generator: &mut ChaCha8Rng,
+) -> Result<bool, NoMemory>
+    requires ready { IsReady reader.now.members.now reader.now.ring.now ids.now (map (seen P.made P.journal P.shut) seats.old) }
+    requires apart { AreDistinct ids.now }
+    ensures ready { IfOk result (λ entered. IsReady reader.now.members.now reader.now.ring.now ids.now
+        (map (seen P.made P.journal P.shut) seats.new)) }
+    ensures entered { IfOk result (λ entered. Entered (map (seen P.made P.journal P.shut) seats.old) generator.old entered
+        (map (seen P.made P.journal P.shut) seats.new) generator.new) }
+{
+    while let Some(grew) = pick(seats, ids, reader, generator)? {
+        if grew {
+            return Ok(true);
+        }
+    }
+    Ok(false)
+}
+
 /// Plays a run to its end. Whether it was cut off.
 pub(crate) fn play<P: Party>(
     seats: &mut [Seat<P>],
@@ -68,24 +92,19 @@ pub(crate) fn play<P: Party>(
         (map (seen P.made P.journal P.shut) seats.new)) }
 {
     let mut entries: u64 = 0;
-    for _event in 0..u64::MAX {
-        if entries >= turns {
-            return Ok(true);
-        }
-        match pick(seats, ids, reader, generator)? {
-            Some(true) => entries += 1,
-            Some(false) => {}
-            None => {
-                let told = nudge_all(seats, ids, reader, turns, entries)?;
-                if told.spent {
-                    return Ok(true);
-                }
-                if !told.moved {
-                    return Ok(false);
-                }
-                entries = told.entries;
+    while entries < turns {
+        if pick_entry(seats, ids, reader, generator)? {
+            entries += 1;
+        } else {
+            let told = nudge_all(seats, ids, reader, turns, entries)?;
+            if told.spent {
+                return Ok(true);
             }
+            if !told.moved {
+                return Ok(false);
+            }
+            entries = told.entries;
         }
     }
-    Err(AllocError)
+    Ok(true)
 }

@@ -4,7 +4,7 @@ ghost use Rattle.sim_sched.specs.Reading.{IsRead};
 
 use bft_verify::{Keyring, Refusal, Verified, verify};
 use fab_base::{Members, NoMemory};
-use std::alloc::{AllocError, Global};
+use std::alloc::Global;
 
 /// Reads bytes for replicas that have the same members and keys.
 #[derive(Clone, Copy, Drop)]
@@ -25,7 +25,7 @@ impl Reader<'_> {
         match verify(self.alloc, self.members, self.ring, load) {
             Ok(verified) => Ok(Ok(verified)),
             Err(refusal) => match refusal {
-                Refusal::NoMemory => Err(AllocError),
+                Refusal::NoMemory => Err(NoMemory),
                 _ => Ok(Err(refusal)),
             },
         }

@@ -100,9 +100,6 @@ fn run_seats<P: Party>(
 /// entry yet and is open. `requests` are the signed requests of the script as copies on their way, each with its receiver, in the order
 /// in which they are put. The seed of the script's generator and the limit of entries are the script's. Step t takes word t of stream 0
 /// of ChaCha8, of which the key is the seed as eight bytes, the greatest first, and 24 zeros, modulo the number of steps.
-///
-/// The loop makes at most 2^64 − 1 steps and answers `NoMemory` behind them: a refused copy makes no entry, so the entries alone bound
-/// no loop. A run that would get so far had put as many copies, for which no memory is large enough.
 pub fn simulate<P: Party>(
     alloc: Global,
     script: Script,

@@ -1,8 +1,8 @@
 //! One step of a run.
-ghost use Rattle.std.specs.Prelude.{◌≡◌, ℕ, ◌+◌, ◌<◌, ◌≤◌, Bool, true, false, [], ◌∷◌, map, length, IfOk, MatchOption, slice_index_or};
+ghost use Rattle.std.specs.Prelude.{◌≡◌, ℕ, ◌+◌, ◌<◌, ◌≤◌, Bool, true, false, [], ◌∷◌, map, length, IfOk, MatchOption, Some, slice_index_or};
 ghost use Rattle.run_words.specs.Journal.{moves};
 ghost use Rattle.run_words.specs.Runs.{Rules, Run, next, steps, is_spent, Step};
-ghost use Rattle.sim_sched.specs.Seats.{SeatView, seen, receive, AllOpen, seat_steps, IsChosen, IsPossible};
+ghost use Rattle.sim_sched.specs.Seats.{SeatView, seen, receive, copies, AllOpen, seat_steps, IsChosen, IsPossible};
 ghost use Rattle.sim_sched.specs.Putting.{AreDistinct, ids_of, given_at, heard_at};
 ghost use Rattle.sim_sched.specs.Simulating.{Acts, AllMadeWith, IsReady, Picked};
 
@@ -79,7 +79,8 @@ pub(crate) fn act_at<P: Party>(
     }
 }
 
-/// Picks a step by the next word and makes it. Whether an entry was made; `None` where no step can move.
+/// Picks a step by the next word and makes it. Whether an entry was made, else a copy was refused and has left the way; `None` where no
+/// step can move.
 pub(crate) fn pick<P: Party>(
     seats: &mut [Seat<P>],
     ids: &[ReplicaId],
@@ -92,13 +93,15 @@ pub(crate) fn pick<P: Party>(
         (map (seen P.made P.journal P.shut) seats.new)) }
     ensures picked { IfOk result (λ told. Picked (map (seen P.made P.journal P.shut) seats.old) generator.old told
         (map (seen P.made P.journal P.shut) seats.new) generator.new) }
+    ensures fewer { IfOk result (λ told. told ≡ Some false → copies (map (seen P.made P.journal P.shut) seats.old)
+        ≡ copies (map (seen P.made P.journal P.shut) seats.new) + 1) }
 {
-    let count = count_all(seats)?;
+    let count = count_all(seats);
     if count == 0 {
         return Ok(None);
     }
     let word = generator.next_word();
-    let number = word as usize % count;
+    let number = (word as u128 % count) as usize;
     let (place, own) = find(seats, number);
     let choice = seats[place].choice(own);
     let grew = act_at(seats, ids, reader, place, choice)?;

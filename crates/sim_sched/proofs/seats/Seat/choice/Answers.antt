@@ -16,20 +16,19 @@ returns-then-number-len g c =
 
 pub returns : goal.returns
 returns g c =
+    let s = seen g.P.Party.made g.P.Party.journal g.P.Party.shut c.args.self.now in
+    let b = c.moves-batch.ensures ∙ open_moves _ _ c.requires.open in
+    let e = c.moves-emit.ensures ∙ open_moves _ _ c.requires.open in
+    let n : c.len-2.result ≡ length c.args.self.now.way.items = omega arith in
+    let q : c.choice_by.result
+    ≡ choice_after (moves s.maker s.journal Mover.Batch) (moves s.maker s.journal Mover.Emit) (c.args.number - length s.way) =
+    c.choice_by.ensures ∙ ap (λ x. choice_after x c.moves-emit.result (c.args.number - c.len-2.result)) b
+    ∙ ap (λ x. choice_after (moves s.maker s.journal Mover.Batch) x (c.args.number - c.len-2.result)) e
+    ∙ ap (λ k. choice_after (moves s.maker s.journal Mover.Batch) (moves s.maker s.journal Mover.Emit) (c.args.number - k)) n in
     record {
-      possible = subst (λ (x : Choice). IsPossible (seen g.P.Party.made g.P.Party.journal g.P.Party.shut c.args.self.now) x)
-          (sym c.choice_by.ensures) (event_possible (seen g.P.Party.made g.P.Party.journal g.P.Party.shut c.args.self.now) _ _ _);
+      possible = subst (λ (x : Choice). IsPossible s x) (sym q) (event_possible s c.args.number (omega arith) c.requires.there);
       chosen =
           λ d.
-          let s = seen g.P.Party.made g.P.Party.journal g.P.Party.shut c.args.self.now in
-          let h = chosen_event s c.args.number d (omega arith) c.requires.there in
-          let b = c.moves-batch.ensures ∙ open_moves _ _ c.requires.open in
-          let e = c.moves-emit.ensures ∙ open_moves _ _ c.requires.open in
-          let n : c.len-2.result ≡ length c.args.self.now.way.items = omega arith in
-          let q : c.choice_by.result
-          ≡ choice_after (moves s.maker s.journal Mover.Batch) (moves s.maker s.journal Mover.Emit) (c.args.number - length s.way) =
-          c.choice_by.ensures ∙ ap (λ x. choice_after x c.moves-emit.result (c.args.number - c.len-2.result)) b
-          ∙ ap (λ x. choice_after (moves s.maker s.journal Mover.Batch) x (c.args.number - c.len-2.result)) e
-          ∙ ap (λ k. choice_after (moves s.maker s.journal Mover.Batch) (moves s.maker s.journal Mover.Emit) (c.args.number - k)) n in
-          subst (λ (x : Choice). IsChosen s x (get_or (seat_steps s) c.args.number d)) (sym q) h;
+          subst (λ (x : Choice). IsChosen s x (get_or (seat_steps s) c.args.number d)) (sym q)
+          (chosen_event s c.args.number d (omega arith) c.requires.there);
     }
