@@ -13,3 +13,4 @@ pub mod Traces
 pub mod Acted
 pub mod Asked
 pub mod Opened
+pub mod Started
