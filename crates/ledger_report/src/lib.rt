@@ -3,10 +3,6 @@
 //! [`report`] writes what a run left: each replica's ledger, the longest one's blocks with what their requests came to, the table, and how
 //! the run ended. The lines of requests and of the table serve other reports too: [`push_replies`], [`push_table`], [`push_done`]. The
 //! words are `specs/Text` and `specs/Report`.
-//!
-//! The modules: `text` and `lines` have a function for each line, `ledgers` replays each journal and finds the longest ledger, `notes`
-//! gathers what replicas told of blocks, `blocks` applies a ledger anew and writes its blocks' lines, `runs` adds the table to these, and
-//! `reporting` puts the report together.
 #![tactic(auto)]
 
 mod blocks;

@@ -1,7 +1,11 @@
 -- The replicas of a script, one after another, with their signers.
-use Rattle.std.proofs.Common.{◌≡◌, true, ℕ, zero, suc, ◌<◌, ◌≤◌, List, [], ◌∷◌, ◌++◌, map, length, take, get_or, inl, inr, refl, sym, ap, subst, ◌∙◌, arith, Some}
+use Rattle.std.proofs.Common.{◌≡◌, true, ℕ, zero, suc, ◌+◌, ◌<◌, ◌≤◌, List, [], ◌∷◌, ◌++◌, map, length, take, get_or, inl, inr, refl, sym, ap, subst, ◌∙◌, arith, Some, length-append, append_assoc}
 use Rattle.fab_base.specs.declared.ids.ReplicaId.{ReplicaId}
 use Rattle.fab_base.specs.declared.ids.Who.{Who}
+use Rattle.std.proofs.lemmas.List.{take_more}
+use Rattle.script_keys.proofs.Listing.{map_both}
+use Rattle.fab_base.specs.Limits.{Roster}
+use Rattle.run_worlds.specs.Scripts.{roster_of}
 use Rattle.fab_rules.specs.Lists.{In}
 use Rattle.fault_script.specs.declared.scripts.Script.{Script}
 use Rattle.lms_tree.specs.Keys.{public_of_key}
@@ -14,7 +18,7 @@ use Rattle.script_keys.proofs.Signatures.{has_place as signature_has_place}
 use Rattle.fab_rules.specs.Format.{signature_fits}
 use Rattle.lms_tree.specs.Heights.{leaf_count}
 use Rattle.lms_tree.specs.Signatures.{leaf_signature}
-use Rattle.replica_log.specs.Logs.{Log}
+use Rattle.replica_log.specs.Logs.{Log, fresh_log}
 use Rattle.script_sim.specs.Schedules.{log_of}
 
 -- ---- the next one
@@ -77,3 +81,35 @@ pub has_place : (script : Script) (me : ReplicaId) (signer : Leaves) → IsNext 
 has_place script me signer h =
     subst (λ (s : Leaves). (k : ℕ) (content : List ℕ) → k < leaf_count s.key.height → signature_fits (leaf_signature s.key k content) ≡ true) (sym h.signs)
     (λ k content lt. signature_has_place script (Who.Replica me) k content lt)
+
+-- ---- a log more
+
+-- what a step of the loop leaves: the logs of all that came so far, and the signers that are left
+pub goes_on : (script : Script) (replicas : List ReplicaId) (signers : List Leaves) (logs now : List (Log Leaves)) (before rest later : List Leaves)
+    (signer : Leaves) (log : Log Leaves) (members : Roster) (ring : Ring) (d : ReplicaId) (k : ℕ)
+    → replicas ≡ replicas_of script → signers ≡ signers_of script → members ≡ roster_of script → ring ≡ ring_of script
+    → logs ≡ map (log_of script) (take (length before) replicas) → before ++ rest ≡ signers → rest ≡ signer ∷ later → k ≡ length logs
+    → log ≡ fresh_log members ring (get_or replicas k d) signer → now ≡ logs ++ log ∷ []
+    → (now ≡ map (log_of script) (take (length (before ++ signer ∷ [])) replicas)) × ((before ++ signer ∷ []) ++ later ≡ signers)
+goes_on script replicas signers logs now before rest later signer log members ring d k ids all m r made cut first at is more =
+    let here = next_at (λ i. signer_of script (Who.Replica i)) (replicas_of script) before signer later d
+    (ap (λ l. before ++ l) (sym first) ∙ cut ∙ all) in
+    let n = length before in
+    let lt : n < length replicas = subst (λ (l : List ReplicaId). n < length l) (sym ids) here.within in
+    let within : n ≤ length replicas = omega (arith, lt) in
+    let same : k ≡ n = at ∙ ap length made ∙ long (log_of script) replicas n within in
+    let me = get_or replicas n d in
+    let next = next_is script replicas signers before rest later signer d ids all cut first in
+    let log_is : log ≡ log_of script me =
+    is ∙ ap (λ (j : ℕ). fresh_log members ring (get_or replicas j d) signer) same
+    ∙ ap (λ (x : Roster). fresh_log x ring me signer) m
+    ∙ ap (λ (x : Ring). fresh_log (roster_of script) x me signer) r
+    ∙ ap (λ (x : Leaves). fresh_log (roster_of script) (ring_of script) me x) next.signs in
+    let longer : length (before ++ signer ∷ []) ≡ n + 1 = length-append before (signer ∷ []) in (
+      more ∙ ap (λ (l : List (Log Leaves)). l ++ log ∷ []) made
+          ∙ ap (λ (x : Log Leaves). map (log_of script) (take n replicas) ++ x ∷ []) log_is
+          ∙ sym (map_both (log_of script) (take n replicas) (me ∷ []))
+          ∙ ap (map (log_of script)) (sym (take_more replicas n d lt))
+          ∙ ap (λ (j : ℕ). map (log_of script) (take j replicas)) (sym longer),
+      append_assoc before (signer ∷ []) later ∙ ap (λ l. before ++ l) (sym first) ∙ cut,
+    )

@@ -2,7 +2,7 @@ use Rattle.std.proofs.Common.{rules, ◌≡◌, ap, ◌∙◌, length, get_or}
 use Rattle.fab_base.specs.Limits.{Roster}
 use Rattle.fab_base.specs.Roster.{is_replica}
 use Rattle.audit_laws.proofs.Members.{takes_part}
-use Rattle.script_sim.proofs.Starting.{in_ring, has_place, next_at_length}
+use Rattle.script_sim.proofs.Starting.{in_ring, has_place, next_at_length, goes_on}
 use Rattle.script_sim.proofs.logs.logs_of.Goals as goal
 
 pub log_of-requires-clause-member : goal.log_of-requires-clause-member
@@ -37,3 +37,12 @@ log_of-requires-clause-fits c =
     c.loop-signer.signer-iterator.rest.items c.next.new.self.rest.items c.in-Some.signer (record { cluster = 0; index = 0 }) c.len.result
     c.requires.replicas c.requires.signers c.loop-signer.invariant.0 c.loop-signer.invariant.1 c.in-Some.ensures.steps.0 at in
     has_place c.args.script.now (get_or c.args.replicas.now c.len.result (record { cluster = 0; index = 0 })) c.in-Some.signer next
+
+pub loop-signer-preserved : goal.loop-signer-preserved
+loop-signer-preserved c =
+    let at : c.len.result ≡ length c.loop-signer.logs.items = search rules in
+    goes_on c.args.script.now c.args.replicas.now c.args.signers.items c.loop-signer.logs.items c.push.new.self.items c.loop-signer.yielded
+    c.loop-signer.signer-iterator.rest.items c.next.new.self.rest.items c.in-Some.signer c.in_ok-log.log c.args.members.now c.args.ring.now
+    (record { cluster = 0; index = 0 }) c.len.result
+    c.requires.replicas c.requires.signers c.requires.members c.requires.ring c.loop-signer.invariant.0 c.loop-signer.invariant.1
+    c.in-Some.ensures.steps.0 at c.in_ok-log.ensures c.in_ok-push.ensures.items
