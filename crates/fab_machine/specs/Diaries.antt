@@ -36,6 +36,7 @@ diary_after me s Event.Batch now diary = diary
 diary_after me s Event.Nudge now diary = diary
 diary_after me s (Event.Emit sig) now diary = diary_sent me s.outbox diary
 diary_after me s Event.Execute now diary = diary_did diary (drop (length s.rounds.blocks) now.rounds.blocks)
+diary_after me s Event.Checkpoint now diary = diary
 
 -- ---- many events
 

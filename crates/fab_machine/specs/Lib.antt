@@ -3,6 +3,8 @@ pub mod Items
 pub mod Voting
 pub mod Requests
 pub mod Proposing
+pub mod Hearing
+pub mod Checkpointing
 pub mod Serving
 pub mod Rounds
 pub mod Step

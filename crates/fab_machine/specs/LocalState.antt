@@ -1,21 +1,24 @@
 -- What a state of local ordering keeps by itself, whatever it heard: the invariant of its type.
-use Rattle.std.specs.Prelude.{◌≡◌, ℕ, ◌<◌, ◌≤◌, true, List, length, Option, Some, IsTrue}
+use Rattle.std.specs.Prelude.{◌≡◌, ℕ, ◌<◌, ◌≤◌, true, List, [], ◌∷◌, length, Option, Some, IsTrue}
 use Rattle.fab_base.specs.declared.limits.TheConstants.{GREATEST_NUMBER}
 use Rattle.fab_base.specs.Limits.{Roster}
 use Rattle.fab_base.specs.Roster.{size_of, home_of}
 use Rattle.fab_base.specs.declared.ids.ReplicaId.{ReplicaId}
 use Rattle.fab_base.specs.declared.requests.Request.{Request}
 use Rattle.fab_base.specs.declared.messages.Vote.{Vote}
+use Rattle.fab_base.specs.declared.messages.StableVote.{StableVote}
 use Rattle.fab_base.specs.declared.messages.PreparedCert.{PreparedCert}
+use Rattle.fab_base.specs.declared.messages.Message.{Message}
 use Rattle.fab_rules.specs.Lists.{In}
 use Rattle.fab_rules.specs.Format.{request_fits, batch_fits}
 use Rattle.fab_rules.specs.Digests.{batch_digest}
-use Rattle.fab_rules.specs.Shape.{is_batch_of}
+use Rattle.fab_rules.specs.Shape.{IsShaped, is_batch_of}
 use Rattle.fab_rules.specs.Quoted.{IsVoteFor}
 use Rattle.pbft_slots.specs.Ballots.{Counted}
 use Rattle.pbft_slots.specs.Window.{Window, IsWindow, proposal_at, prepare_at, commit_at}
 use Rattle.pbft_slots.specs.declared.slot.Proposal.{Proposal}
-use Rattle.fab_machine.specs.State.{Local}
+use Rattle.checkpoint_core.specs.Checkpoints.{Checkpoints, AreCheckpoints}
+use Rattle.fab_machine.specs.State.{Due, Local}
 use Rattle.fab_machine.specs.Items.{member_of}
 use Rattle.fab_machine.specs.Requests.{InOrder}
 
@@ -48,10 +51,27 @@ pub record AreWaiting (r : Roster) (me : ReplicaId) (waiting : List Request) : T
   pub homes : (x : Request) → In x waiting → home_of r x.client ≡ me.cluster
   pub order : InOrder waiting
 
+-- the rounds rise, from above this one on
+abbrev pub AreAbove : ℕ → List Due → Type 0
+AreAbove low [] = Unit {0}
+AreAbove low (d ∷ rest) = (low < d.round) × AreAbove d.round rest
+
+-- the Checkpoints that count are of members of the own cluster, above the one low mark; and what is due was executed
+pub record AreMarked (r : Roster) (me : ReplicaId) (low executed : ℕ) (c : Checkpoints) (due : List Due) : Type 0 where
+  pub counted : AreCheckpoints c
+  pub members : c.members ≡ size_of r me.cluster
+  pub one_low : c.low ≡ low
+  pub own : (v : StableVote) → In v c.votes → v.signer.cluster ≡ me.cluster
+  pub rise : AreAbove low due
+  pub upto : (d : Due) → In d due → d.round ≤ executed
+
 pub record IsLocalState (r : Roster) (me : ReplicaId) (l : Local) : Type 0 where
   pub view_fits : l.view ≤ GREATEST_NUMBER
   pub wants : (asked : ℕ) → l.changing ≡ Some asked → l.view < asked
   pub next_from : 1 ≤ l.next
+  pub executed_fits : l.executed ≤ GREATEST_NUMBER
   pub opened : AreOpen r me l.slots l.prepared
   pub held : AreHeld r me l.view l.slots
   pub waiting : AreWaiting r me l.waiting
+  pub kept : (m : Message) → In m l.kept → IsShaped r m
+  pub marked : AreMarked r me l.slots.low l.executed l.checkpoints l.due

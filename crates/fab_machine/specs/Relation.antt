@@ -3,15 +3,17 @@
 --
 -- The facts speak of the full diary: the one in which all that waits in the outbox is said too. A put adds one statement to it, and
 -- sending leaves it as it is. A record takes the parts of the state that it speaks of, so that a change of other parts leaves it true.
-use Rattle.std.specs.Prelude.{◌≡◌, ℕ, ◌*◌, ◌<◌, ◌≤◌, ◌⊎◌, List, [], ◌∷◌, length, Option, Some, None, Result, Ok, Err, IsSome, IsTrue, map, slice_get, slice_index}
+use Rattle.std.specs.Prelude.{◌≡◌, ℕ, ◌%◌, ◌*◌, ◌<◌, ◌≤◌, ◌⊎◌, List, [], ◌∷◌, length, Option, Some, None, Result, Ok, Err, IsSome, IsTrue, map, take, slice_get, slice_index}
 use Rattle.fab_base.specs.Limits.{Roster}
 use Rattle.fab_base.specs.Quorums.{quorum_size}
 use Rattle.fab_base.specs.Roster.{size_of, home_of}
 use Rattle.fab_base.specs.Table.{last_of}
 use Rattle.fab_base.specs.declared.ids.ClientId.{ClientId}
+use Rattle.fab_base.specs.declared.ids.Hash32.{Hash32}
 use Rattle.fab_base.specs.declared.ids.ReplicaId.{ReplicaId}
 use Rattle.fab_base.specs.declared.requests.Request.{Request}
 use Rattle.fab_base.specs.declared.messages.Vote.{Vote}
+use Rattle.fab_base.specs.declared.messages.StableVote.{StableVote}
 use Rattle.fab_base.specs.declared.messages.PreparedCert.{PreparedCert}
 use Rattle.fab_base.specs.declared.messages.CommitCert.{CommitCert}
 use Rattle.fab_base.specs.declared.messages.NewView.{NewView}
@@ -23,7 +25,7 @@ use Rattle.fab_rules.specs.Format.{comes_before}
 use Rattle.fab_rules.specs.Digests.{batch_digest}
 use Rattle.fab_rules.specs.Choice.{base, top}
 use Rattle.fab_rules.specs.Shape.{IsShaped, is_batch_of}
-use Rattle.fab_rules.specs.Ledger.{start_of, state_after_blocks}
+use Rattle.fab_rules.specs.Ledger.{start_of, state_after_blocks, chain_of}
 use Rattle.fab_rules.specs.Statements.{statements_of}
 use Rattle.fab_rules.specs.Quoted.{IsVoteFor}
 use Rattle.fab_rules.specs.Diary.{Entry, Heard, Said, ledger, StatementHeard, CommitHeard, BatchHeard, QuorumHeard, first_new_view}
@@ -32,7 +34,7 @@ use Rattle.fab_rules.specs.Growth.{after_saying}
 use Rattle.pbft_slots.specs.Ballots.{Counted}
 use Rattle.pbft_slots.specs.Window.{Window, place_in, proposal_at, prepare_at, commit_at, prepared_at}
 use Rattle.pbft_slots.specs.declared.slot.Proposal.{Proposal}
-use Rattle.fab_machine.specs.State.{Local, Rounds, Replica, wanted}
+use Rattle.fab_machine.specs.State.{Due, Local, Rounds, Replica, wanted}
 use Rattle.fab_machine.specs.Items.{statements_by, statements_in}
 use Rattle.fab_machine.specs.LocalState.{IsLocalState}
 use Rattle.fab_machine.specs.Rounds.{round_of}
@@ -44,12 +46,13 @@ use Rattle.fab_machine.specs.declared.outs.Out.{Out}
 abbrev pub IsBatchKnown : List Entry → List Request → Type 0
 IsBatchKnown full batch = (batch ≡ []) ⊎ BatchHeard full batch
 
-pub record AreHeard (slots : Window Vote) (waiting : List Request) (kept : List Message) (full : List Entry) : Type 0 where
+pub record AreHeard (slots : Window Vote) (waiting : List Request) (kept : List Message) (votes : List StableVote) (full : List Entry) : Type 0 where
   pub proposals : (slot : ℕ) (p : Proposal) → proposal_at slots slot ≡ Some p → IsBatchKnown full p.batch
   pub prepares : (slot sender : ℕ) (c : Counted Vote) → prepare_at slots slot sender ≡ Some c → In (Heard (Message.Prepare c.kept)) full
   pub commits : (slot sender : ℕ) (c : Counted Vote) → commit_at slots slot sender ≡ Some c → In (Heard (Message.Commit c.kept)) full
   pub requests : (x : Request) → In x waiting → In (Heard (Message.Request x)) full
   pub messages : (m : Message) → In m kept → In (Heard m) full
+  pub checkpoints : (v : StableVote) → In v votes → In (Heard (Message.Checkpoint v)) full
 
 -- ---- what was put is noted
 
@@ -70,11 +73,17 @@ pub record IsNotedCommit (l : Local) (v : Vote) : Type 0 where
   pub past : IsPast l v.view v.slot (IsSome (prepared_at l.slots v.slot))
   pub covered : IsCovered l v
 
+-- a Checkpoint that was put is of an executed round before each that is due
+pub record IsNotedCheckpoint (l : Local) (x : StableVote) : Type 0 where
+  pub done : x.round ≤ l.executed
+  pub past : (d : Due) → In d l.due → x.round < d.round
+
 -- what the state remembers of a statement that was put, by its kind. Nothing that votes or proposes was put above the entered view
 abbrev pub IsNoted : Local → Message → Type 0
 IsNoted l (Message.PrePrepare p) = (p.view < l.view) ⊎ ((p.view ≡ l.view) × (p.slot < l.next))
 IsNoted l (Message.Prepare v) = IsPast l v.view v.slot (IsSome (proposal_at l.slots v.slot))
 IsNoted l (Message.Commit v) = IsNotedCommit l v
+IsNoted l (Message.Checkpoint x) = IsNotedCheckpoint l x
 IsNoted l (Message.ViewChange c) = c.view ≤ wanted l
 IsNoted l (Message.ReplyNote n) = n.round ≤ l.executed
 IsNoted l m = Unit {0}
@@ -112,16 +121,35 @@ pub record IsEntered (cluster view : ℕ) (slots : Window Vote) (full : List Ent
   pub base_is : base new_view ≤ slots.low
   pub filled : (s : ℕ) → slots.low < s → s ≤ top new_view → IsSome (proposal_at slots s)
 
+-- ---- checkpoints
+
+-- a round that is due: the fabric's interval is met, the round was done, and the digest is the chain of the ledger up to it
+pub record IsDue (r : Roster) (full : List Entry) (d : Due) : Type 0 where
+  pub met : d.round % r.interval ≡ 0
+  pub done : d.round * length r.sizes ≤ length (ledger full)
+  pub chain_is : d.digest ≡ chain_of (take (d.round * length r.sizes) (ledger full))
+
+-- the proof of a low mark: a quorum's Checkpoints of the round, by rising index, with one digest, each heard
+pub record IsProof (r : Roster) (me : ReplicaId) (low : ℕ) (proof : List StableVote) (full : List Entry) : Type 0 where
+  pub digest : Hash32
+  pub count : length proof ≡ quorum_size (size_of r me.cluster)
+  pub rises : IsTrue (rises_by comes_before (map (λ v. v.signer) proof))
+  pub heard : (v : StableVote) → In v proof → In (Heard (Message.Checkpoint v)) full
+  pub own : (v : StableVote) → In v proof → v.signer.cluster ≡ me.cluster
+  pub agree : (v : StableVote) → In v proof → (v.round ≡ low) × (v.digest ≡ digest)
+
 -- ---- local ordering and the diary
 
 pub record AreLocal (r : Roster) (me : ReplicaId) (l : Local) (full : List Entry) : Type 0 where
   pub is : IsLocalState r me l
   pub shaped : (m : Message) → In (Heard m) full → IsShaped r m
-  pub heard : AreHeard l.slots l.waiting l.kept full
+  pub heard : AreHeard l.slots l.waiting l.kept l.checkpoints.votes full
   pub reported : AreReported r me l.view l.slots l.prepared full
   pub quoted : (m : Message) → In (Said m) full → IsQuoting full m
   pub noted : (m : Message) → In (Said m) full → IsNoted l m
   pub entered : 1 ≤ l.view → IsEntered me.cluster l.view l.slots full
+  pub due : (d : Due) → In d l.due → IsDue r full d
+  pub proven : 1 ≤ l.slots.low → IsProof r me l.slots.low l.proof full
 
 -- ---- rounds and the diary
 

@@ -2,15 +2,18 @@
 use Rattle.std.specs.Prelude.{ℕ, List, [], length, replicate, Option, Some, None}
 use Rattle.fab_base.specs.Limits.{Roster}
 use Rattle.fab_base.specs.Roster.{size_of}
+use Rattle.fab_base.specs.declared.ids.Hash32.{Hash32}
 use Rattle.fab_base.specs.declared.ids.ReplicaId.{ReplicaId}
 use Rattle.fab_base.specs.declared.requests.Request.{Request}
 use Rattle.fab_base.specs.declared.messages.Vote.{Vote}
+use Rattle.fab_base.specs.declared.messages.StableVote.{StableVote}
 use Rattle.fab_base.specs.declared.messages.PreparedCert.{PreparedCert}
 use Rattle.fab_base.specs.declared.messages.CommitCert.{CommitCert}
 use Rattle.fab_base.specs.declared.messages.Message.{Message}
 use Rattle.fab_base.specs.declared.answers.Item.{Item}
 use Rattle.fab_rules.specs.declared.blocks.Block.{Block}
 use Rattle.pbft_slots.specs.Window.{Window, empty_window}
+use Rattle.checkpoint_core.specs.Checkpoints.{Checkpoints, no_checkpoints}
 
 -- ---- ordering in the own cluster
 
@@ -18,6 +21,11 @@ use Rattle.pbft_slots.specs.Window.{Window, empty_window}
 pub record Proposed : Type 0 where
   pub slot : ℕ
   pub batch : List Request
+
+-- a round for which a Checkpoint is due, and the digest that it bears
+pub record Due : Type 0 where
+  pub round : ℕ
+  pub digest : Hash32
 
 pub record Local : Type 0 where
   -- the entered view, and the view that is asked for and not entered
@@ -37,6 +45,11 @@ pub record Local : Type 0 where
   pub executed : ℕ
   -- proposals and votes that were ahead or far, in the order in which they came
   pub kept : List Message
+  -- the Checkpoints that count, above the low mark, and those of the quorum that moved it: none at 0
+  pub checkpoints : Checkpoints
+  pub proof : List StableVote
+  -- the executed rounds above the low mark for which a Checkpoint is due and none was put, rising
+  pub due : List Due
 
 -- the view that is asked for, or else the entered one
 abbrev pub wanted_by : Option ℕ → ℕ → ℕ
@@ -79,6 +92,9 @@ fresh_local r me =
       last = replicate (length r.homes) 0;
       executed = 0;
       kept = [];
+      checkpoints = no_checkpoints (size_of r me.cluster);
+      proof = [];
+      due = [];
     }
 
 abbrev pub fresh_rounds : Rounds

@@ -7,18 +7,18 @@ use Rattle.fab_base.specs.declared.messages.Note.{Note}
 use Rattle.fab_base.specs.declared.messages.Message.{Message}
 use Rattle.fab_base.specs.declared.answers.Answer.{Answer}
 use Rattle.fab_base.specs.declared.answers.Item.{Item}
-use Rattle.fab_base.specs.declared.answers.Take.{Take}
 use Rattle.fab_rules.specs.declared.blocks.Block.{Block}
 use Rattle.fab_rules.specs.Lists.{first_of}
 use Rattle.fab_rules.specs.Digests.{batch_digest}
 use Rattle.fab_rules.specs.Ledger.{RunBlock, lines_of}
 use Rattle.fab_machine.specs.State.{Local, Rounds, Replica}
 use Rattle.fab_machine.specs.Items.{sent_item, draft_of}
-use Rattle.fab_machine.specs.Voting.{Told, unmoved, hear_proposal, hear_prepare, hear_commit}
-use Rattle.fab_machine.specs.Requests.{hear_request}
+use Rattle.fab_machine.specs.Voting.{Told}
+use Rattle.fab_machine.specs.Hearing.{hear}
+use Rattle.fab_machine.specs.Checkpointing.{checkpoint}
 use Rattle.fab_machine.specs.Proposing.{propose}
 use Rattle.fab_machine.specs.Serving.{served}
-use Rattle.fab_machine.specs.Rounds.{knows_others, keep, next_round, with_round, ran_block}
+use Rattle.fab_machine.specs.Rounds.{knows_others, keep, next_round, with_round, ran_block, chain}
 use Rattle.fab_machine.specs.declared.outs.Out.{Out}
 
 pub data Event : Type 0 where
@@ -28,6 +28,7 @@ pub data Event : Type 0 where
   -- with the signature of the first item, where this replica signs it
   Emit : List ℕ → Event
   Execute : Event
+  Checkpoint : Event
 
 pub record Stepped : Type 0 where
   pub answer : Answer
@@ -45,16 +46,6 @@ after_outs s (out ∷ rest) = after_outs (after_out s out) rest
 
 abbrev pub after_told : Replica → Told → Stepped
 after_told s t = record { answer = t.answer; state = after_outs (record s { local = t.local }) t.outs }
-
--- ---- Hear
-
--- a reply is stray, and so is a kind that nothing is done about
-abbrev pub hear : Roster → ReplicaId → Local → Message → Told
-hear r me l (Message.Request x) = hear_request r me l x
-hear r me l (Message.PrePrepare p) = hear_proposal r me l p
-hear r me l (Message.Prepare v) = hear_prepare r me l v
-hear r me l (Message.Commit v) = hear_commit r me l v
-hear r me l m = unmoved l (Answer.Heard Take.Stray)
 
 -- ---- Batch and Nudge
 
@@ -77,12 +68,12 @@ note_of me round ran = record { signer = me; round = round; digest = batch_diges
 abbrev pub note_item : ReplicaId → ℕ → RunBlock → Item
 note_item me round ran = record { message = Message.ReplyNote (note_of me round ran); to = [] }
 
--- local ordering is told of the round, and its note is put
-abbrev pub after_noting : ReplicaId → Replica → Rounds → Option RunBlock → Replica
-after_noting me s rounds None = record s { rounds = rounds }
-after_noting me s rounds (Some ran) =
+-- local ordering is told of the round, of which a Checkpoint bears the chain of the ledger up to it; and its note is put
+abbrev pub after_noting : Roster → ReplicaId → Replica → Rounds → Option RunBlock → Replica
+after_noting r me s rounds None = record s { rounds = rounds }
+after_noting r me s rounds (Some ran) =
     record {
-      local = served s.local rounds.executed ran.block.batch ran.outcomes;
+      local = served r s.local rounds.executed ran.block.batch ran.outcomes (chain rounds);
       rounds = rounds;
       outbox = s.outbox ++ note_item me rounds.executed ran ∷ [];
     }
@@ -95,7 +86,7 @@ abbrev pub execute_step : Roster → ReplicaId → Replica → Result (List Bloc
 execute_step r me s (Err missing) = record { answer = Answer.NotYet missing; state = s }
 execute_step r me s (Ok blocks) =
     let rounds = with_round s.rounds blocks in
-    record { answer = Answer.Executed rounds.executed; state = after_noting me s rounds (own_block r me rounds) }
+    record { answer = Answer.Executed rounds.executed; state = after_noting r me s rounds (own_block r me rounds) }
 
 -- ---- any event
 
@@ -105,6 +96,7 @@ step r me s Event.Batch = propose_step r me s false
 step r me s Event.Nudge = propose_step r me s true
 step r me s (Event.Emit sig) = emit_step me s sig s.outbox
 step r me s Event.Execute = execute_step r me s (next_round (length r.sizes) s.rounds)
+step r me s Event.Checkpoint = after_told s (checkpoint r me s.local)
 
 -- ---- questions
 
@@ -126,6 +118,10 @@ moves r me s e = makes_entry (step r me s e).answer
 -- whether local ordering would propose
 abbrev pub can_propose : Roster → ReplicaId → Local → Bool → Bool → Bool
 can_propose r me l nudged known = makes_entry (propose r me l nudged known).answer
+
+-- whether it would vote for a round, or move the low mark
+abbrev pub can_checkpoint : Roster → ReplicaId → Local → Bool
+can_checkpoint r me l = makes_entry (checkpoint r me l).answer
 
 -- the first item that waits, and what is to be signed of it
 abbrev pub first : Replica → Option Item
