@@ -49,7 +49,7 @@ pub record IsOpen (c : Checkpoints) (v : StableVote) : Type 0 where
 pub record AreCheckpoints (c : Checkpoints) : Type 0 where
   pub some : 1 ≤ c.members
   pub few : c.members ≤ MOST_MEMBERS
-  pub open : All (IsOpen c) c.votes
+  pub counted : All (IsOpen c) c.votes
   pub first : AreFirst c.votes
 
 -- ---- hearing one
