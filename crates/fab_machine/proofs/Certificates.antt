@@ -170,7 +170,7 @@ slot_of_first slot (v ∷ rest) some each = each v (inl refl)
 -- ---- the certificate of a prepared slot
 
 pub certificate_reported : (r : Roster) (me : ReplicaId) (l : Local) (full : List Entry) (slot : ℕ) (d : Hash32) → IsLocalState r me l
-    → AreHeard l.slots l.waiting l.kept full → prepared_at l.slots slot ≡ Some d → IsReported r me l.view full slot (prepared_certificate l slot d)
+    → AreHeard l.slots l.waiting l.kept l.checkpoints.votes full → prepared_at l.slots slot ≡ Some d → IsReported r me l.view full slot (prepared_certificate l slot d)
 certificate_reported r me l full slot d is heard prepared =
     let w = l.slots in
     let n = w.members in
@@ -179,7 +179,7 @@ certificate_reported r me l full slot d is heard prepared =
     let enough = quorum_counted n s.at.prepares d s.size s.agreed.quorum in
     let first = first_are me l.view slot (quorum_size n) s.at.prepares d enough (prepares_kept r me l.view w slot s.at is.held s.at_is) in
     let were = first_each (λ v. In (Heard (Message.Prepare v)) full) (quorum_size n) s.at.prepares d
-    (prepares_heard w l.waiting l.kept full slot s.at heard s.at_is) in
+    (prepares_heard w l.waiting l.kept l.checkpoints.votes full slot s.at heard s.at_is) in
     let votes_are : (prepared_certificate l slot d).votes ≡ first_votes (quorum_size n) s.at.prepares d =
     ap (λ o. first_votes (quorum_size n) (votes_in (λ t. t.prepares) o) d) s.at_is in
     let there = λ (v : Vote) (h : In v (prepared_certificate l slot d).votes). subst (In v) votes_are h in
@@ -253,14 +253,14 @@ as_statements r full cluster view slot d q = record {
 
 -- and it is what a round asks for
 pub certificate_backed : (r : Roster) (me : ReplicaId) (l : Local) (full : List Entry) (slot : ℕ) (d : Hash32) → IsMember r me → IsLocalState r me l
-    → AreHeard l.slots l.waiting l.kept full → committed_at l.slots slot ≡ Some d → IsBacked r full (commit_certificate me l slot d)
+    → AreHeard l.slots l.waiting l.kept l.checkpoints.votes full → committed_at l.slots slot ≡ Some d → IsBacked r full (commit_certificate me l slot d)
 certificate_backed r me l full slot d member is heard committed =
     let w = l.slots in
     let formed = certificate_formed r me l slot d member is committed in
     let s = committed_slot w slot d is.opened.window committed in
     let b = agreed_batch (λ t. t.commits) r me l.view w slot d is.held s in
     let quorum = votes_heard r me Message.Commit full w.members l.view slot s.at.commits d is.opened.members
-    (commits_kept r me l.view w slot s.at is.held s.at_is) (commits_heard w l.waiting l.kept full slot s.at heard s.at_is) s.agreed.quorum in
+    (commits_kept r me l.view w slot s.at is.held s.at_is) (commits_heard w l.waiting l.kept l.checkpoints.votes full slot s.at heard s.at_is) s.agreed.quorum in
     record {
       view = l.view;
       committed = subst (λ j. QuorumHeard r (CommitHeard full) me.cluster l.view j (batch_digest (batch_or_null (batch_at w slot)))) (sym formed.round_is)

@@ -1,5 +1,5 @@
 -- The changes of local ordering's state and of the diary of which every step is made: each keeps the relation of the two.
-use Rattle.std.proofs.Common.{◌≡◌, ℕ, ◌≤◌, List, ◌∷◌, map, is_some, inl, inr, subst, arith}
+use Rattle.std.proofs.Common.{◌≡◌, ℕ, ◌≤◌, List, ◌∷◌, map, is_some, inl, inr, sym, subst, arith}
 use Rattle.fab_base.specs.Limits.{Roster}
 use Rattle.fab_base.specs.declared.ids.ReplicaId.{ReplicaId}
 use Rattle.fab_base.specs.declared.requests.Request.{Request}
@@ -18,9 +18,9 @@ use Rattle.pbft_slots.specs.Window.{Window, place_in}
 use Rattle.fab_machine.specs.State.{Proposed, Local}
 use Rattle.fab_machine.specs.Voting.{with_certificate}
 use Rattle.fab_machine.specs.LocalState.{AreWaiting, IsLocalState}
-use Rattle.fab_machine.specs.Relation.{AreHeard, IsQuoting, IsNoted, IsReported, IsEntered, AreLocal}
+use Rattle.fab_machine.specs.Relation.{AreHeard, IsQuoting, IsNoted, IsReported, IsEntered, IsProof, AreLocal}
 use Rattle.fab_rules.proofs.Saying.{same_said, said_is_not_heard}
-use Rattle.fab_machine.proofs.MoreHeard.{hears_later, heard_more, reported_more, quoting_more}
+use Rattle.fab_machine.proofs.MoreHeard.{hears_later, heard_more, reported_more, quoting_more, proof_more}
 use Rattle.fab_machine.proofs.Windows.{IsLater}
 use Rattle.fab_machine.proofs.Noting.{is_some_by, noted_beside, noted_later, noted_kept}
 use Rattle.fab_machine.proofs.States.{state_beside, state_kept}
@@ -35,11 +35,13 @@ pub local_beside : (r : Roster) (me : ReplicaId) (l : Local) (next : ℕ) (propo
 local_beside r me l next proposed waiting last executed kept full later more wait requests messages are = record {
   is = state_beside r me l next proposed waiting last executed kept later wait are.is;
   shaped = are.shaped;
-  heard = (let h = are.heard in record { proposals = h.proposals; prepares = h.prepares; commits = h.commits; requests = requests; messages = messages });
+  heard = (let h = are.heard in record { proposals = h.proposals; prepares = h.prepares; commits = h.commits; requests = requests; messages = messages; checkpoints = h.checkpoints });
   reported = are.reported;
   quoted = are.quoted;
   noted = λ m h. noted_beside l next proposed waiting last executed kept m later more (are.noted m h);
   entered = are.entered;
+  due = are.due;
+  proven = are.proven;
 }
 
 -- ---- more was heard of the slots
@@ -53,7 +55,7 @@ entered_later cluster view w now full later h = record {
 }
 
 pub local_later : (r : Roster) (me : ReplicaId) (l : Local) (now : Window Vote) (full : List Entry) → IsLater l.slots now
-    → IsLocalState r me (record l { slots = now }) → AreHeard now l.waiting l.kept full → AreLocal r me l full → AreLocal r me (record l { slots = now }) full
+    → IsLocalState r me (record l { slots = now }) → AreHeard now l.waiting l.kept l.checkpoints.votes full → AreLocal r me l full → AreLocal r me (record l { slots = now }) full
 local_later r me l now full later is heard are = record {
   is = is;
   shaped = are.shaped;
@@ -62,6 +64,8 @@ local_later r me l now full later is heard are = record {
   quoted = are.quoted;
   noted = λ m h. noted_later l now m later (are.noted m h);
   entered = λ e. entered_later me.cluster l.view l.slots now full later (are.entered e);
+  due = are.due;
+  proven = λ h. subst (λ low. IsProof r me low l.proof full) (sym later.low_is) (are.proven (omega (arith, h, later.low_is)));
 }
 
 -- ---- a prepared certificate is kept
@@ -77,6 +81,8 @@ local_kept r me l slot k full view_is report are = record {
   quoted = are.quoted;
   noted = λ m h. noted_kept l slot k m report.slot_is view_is (are.noted m h);
   entered = are.entered;
+  due = are.due;
+  proven = are.proven;
 }
 
 -- ---- a statement is said: it is noted, and what it quotes was heard
@@ -88,12 +94,14 @@ local_said r me l x full quotes noted are =
     record {
       is = are.is;
       shaped = λ m h. (elim h as (λ _. IsShaped r m) [ inl e ↦ absurd (said_is_not_heard x m e) | inr k ↦ are.shaped m k ]);
-      heard = heard_more l.slots l.waiting l.kept full (Said x ∷ full) more are.heard;
+      heard = heard_more l.slots l.waiting l.kept l.checkpoints.votes full (Said x ∷ full) more are.heard;
       reported = reported_more r me l.view l.slots l.prepared full (Said x ∷ full) more are.reported;
       quoted = λ m h. quoting_more full (Said x ∷ full) m more
           (elim h as (λ _. IsQuoting full m) [ inl e ↦ subst (IsQuoting full) (same_said x m e) quotes | inr k ↦ are.quoted m k ]);
       noted = λ m h. (elim h as (λ _. IsNoted l m) [ inl e ↦ subst (IsNoted l) (same_said x m e) noted | inr k ↦ are.noted m k ]);
       entered = λ e. (let n = are.entered e in record { new_view = n.new_view; is_first = n.is_first; base_is = n.base_is; filled = n.filled });
+      due = λ d h. (let x = are.due d h in record { met = x.met; done = x.done; chain_is = x.chain_is });
+      proven = λ h. proof_more r me l.slots.low l.proof full (Said x ∷ full) more (are.proven h);
     }
 
 -- votes and notes quote nothing
@@ -121,9 +129,11 @@ pub local_grown : (r : Roster) (me : ReplicaId) (l : Local) (a b : List Entry) �
 local_grown r me l a b g shaped are = record {
   is = are.is;
   shaped = shaped;
-  heard = heard_more l.slots l.waiting l.kept a b g.heard are.heard;
+  heard = heard_more l.slots l.waiting l.kept l.checkpoints.votes a b g.heard are.heard;
   reported = reported_more r me l.view l.slots l.prepared a b g.heard are.reported;
   quoted = λ m h. quoting_more a b m g.heard (are.quoted m (g.said m h));
   noted = λ m h. are.noted m (g.said m h);
   entered = λ e. (let n = are.entered e in record { new_view = n.new_view; is_first = g.first me.cluster l.view n.new_view n.is_first; base_is = n.base_is; filled = n.filled });
+  due = λ d h. are.due d h;
+  proven = λ h. proof_more r me l.slots.low l.proof a b g.heard (are.proven h);
 }

@@ -4,13 +4,14 @@ use Rattle.fab_base.specs.Limits.{Roster}
 use Rattle.fab_base.specs.declared.ids.ReplicaId.{ReplicaId}
 use Rattle.fab_base.specs.declared.requests.Request.{Request}
 use Rattle.fab_base.specs.declared.messages.Vote.{Vote}
+use Rattle.fab_base.specs.declared.messages.StableVote.{StableVote}
 use Rattle.fab_base.specs.declared.messages.PreparedCert.{PreparedCert}
 use Rattle.fab_base.specs.declared.messages.CommitCert.{CommitCert}
 use Rattle.fab_base.specs.declared.messages.Message.{Message}
 use Rattle.fab_rules.specs.Lists.{In}
 use Rattle.fab_rules.specs.Diary.{Entry, Heard}
 use Rattle.pbft_slots.specs.Window.{Window}
-use Rattle.fab_machine.specs.Relation.{IsBatchKnown, AreHeard, AreReported, IsQuoting, IsBacked}
+use Rattle.fab_machine.specs.Relation.{IsBatchKnown, AreHeard, AreReported, IsQuoting, IsProof, IsBacked}
 
 abbrev pub HearsAll : List Entry → List Entry → Type 0
 HearsAll a b = (m : Message) → In (Heard m) a → In (Heard m) b
@@ -22,14 +23,15 @@ pub known_more : (a b : List Entry) (batch : List Request) → HearsAll a b → 
 known_more a b batch more (inl e) = inl e
 known_more a b batch more (inr h) = inr (record { message = h.message; heard = more h.message h.heard; inside = h.inside })
 
-pub heard_more : (slots : Window Vote) (waiting : List Request) (kept : List Message) (a b : List Entry) → HearsAll a b → AreHeard slots waiting kept a
-    → AreHeard slots waiting kept b
-heard_more slots waiting kept a b more h = record {
+pub heard_more : (slots : Window Vote) (waiting : List Request) (kept : List Message) (votes : List StableVote) (a b : List Entry) → HearsAll a b
+    → AreHeard slots waiting kept votes a → AreHeard slots waiting kept votes b
+heard_more slots waiting kept votes a b more h = record {
   proposals = λ slot p e. known_more a b p.batch more (h.proposals slot p e);
   prepares = λ slot sender c e. more (Message.Prepare c.kept) (h.prepares slot sender c e);
   commits = λ slot sender c e. more (Message.Commit c.kept) (h.commits slot sender c e);
   requests = λ x q. more (Message.Request x) (h.requests x q);
   messages = λ m q. more m (h.messages m q);
+  checkpoints = λ v q. more (Message.Checkpoint v) (h.checkpoints v q);
 }
 
 pub reported_more : (r : Roster) (me : ReplicaId) (view : ℕ) (slots : Window Vote) (prepared : List (Option PreparedCert)) (a b : List Entry) → HearsAll a b
@@ -53,6 +55,17 @@ quoting_more a b m more old x h =
       | inl e ↦ inl e
       | inr s ↦ inr (record { message = s.message; heard = more s.message s.heard; inside = s.inside })
     ]
+
+pub proof_more : (r : Roster) (me : ReplicaId) (low : ℕ) (proof : List StableVote) (a b : List Entry) → HearsAll a b → IsProof r me low proof a
+    → IsProof r me low proof b
+proof_more r me low proof a b more h = record {
+  digest = h.digest;
+  count = h.count;
+  rises = h.rises;
+  heard = λ v q. more (Message.Checkpoint v) (h.heard v q);
+  own = h.own;
+  agree = h.agree;
+}
 
 pub backed_more : (r : Roster) (a b : List Entry) (k : CommitCert) → HearsAll a b → IsBacked r a k → IsBacked r b k
 backed_more r a b k more h = record {

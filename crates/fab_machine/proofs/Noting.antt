@@ -37,6 +37,7 @@ noted_beside l next proposed waiting last executed kept (Message.PrePrepare p) l
 noted_beside l next proposed waiting last executed kept (Message.PrePrepare p) later more (inr h) = inr (h.0, omega (arith, h.1, later))
 noted_beside l next proposed waiting last executed kept (Message.Prepare v) later more h = h
 noted_beside l next proposed waiting last executed kept (Message.Commit v) later more h = record { past = h.past; covered = h.covered }
+noted_beside l next proposed waiting last executed kept (Message.Checkpoint x) later more h = record { done = omega (arith, h.done, more); past = h.past }
 noted_beside l next proposed waiting last executed kept (Message.ViewChange c) later more h = h
 noted_beside l next proposed waiting last executed kept (Message.ReplyNote n) later more h = omega (arith, h, more)
 noted_beside l next proposed waiting last executed kept m later more h = tt
@@ -66,6 +67,7 @@ noted_later l now (Message.Commit v) later h = record {
   past = past_stays l now v.view v.slot (IsSome (prepared_at l.slots v.slot)) (IsSome (prepared_at now v.slot)) later (is_some_by _ _ (later.prepared v.slot)) h.past;
   covered = covered_stays l now v later h.covered;
 }
+noted_later l now (Message.Checkpoint x) later h = record { done = h.done; past = h.past }
 noted_later l now (Message.ViewChange c) later h = h
 noted_later l now (Message.ReplyNote n) later h = h
 noted_later l now m later h = tt
@@ -109,6 +111,7 @@ noted_kept l slot k (Message.Commit x) s v h = record {
   past = h.past;
   covered = covered_kept l slot k x s v (view_of_past l x.view x.slot (IsSome (prepared_at l.slots x.slot)) h.past) h.covered;
 }
+noted_kept l slot k (Message.Checkpoint x) s v h = record { done = h.done; past = h.past }
 noted_kept l slot k (Message.ViewChange c) s v h = h
 noted_kept l slot k (Message.ReplyNote n) s v h = h
 noted_kept l slot k m s v h = tt
