@@ -10,7 +10,7 @@ use Rattle.fab_base.specs.declared.messages.StableVote.{StableVote}
 use Rattle.fab_base.specs.declared.messages.PreparedCert.{PreparedCert}
 use Rattle.fab_base.specs.declared.messages.Message.{Message}
 use Rattle.fab_rules.specs.Lists.{In}
-use Rattle.fab_rules.specs.Format.{request_fits, batch_fits}
+use Rattle.fab_rules.specs.Format.{digest_fits, request_fits, batch_fits}
 use Rattle.fab_rules.specs.Digests.{batch_digest}
 use Rattle.fab_rules.specs.Shape.{IsShaped, is_batch_of}
 use Rattle.fab_rules.specs.Quoted.{IsVoteFor}
@@ -64,6 +64,7 @@ pub record AreMarked (r : Roster) (me : ReplicaId) (low executed : ℕ) (c : Che
   pub own : (v : StableVote) → In v c.votes → v.signer.cluster ≡ me.cluster
   pub rise : AreAbove low due
   pub upto : (d : Due) → In d due → d.round ≤ executed
+  pub fits : (d : Due) → In d due → digest_fits d.digest ≡ true
 
 pub record IsLocalState (r : Roster) (me : ReplicaId) (l : Local) : Type 0 where
   pub view_fits : l.view ≤ GREATEST_NUMBER
