@@ -5,6 +5,7 @@ pub mod Shaped
 pub mod Shaping
 pub mod Slots
 pub mod Windows
+pub mod Moving
 pub mod Noting
 pub mod MoreHeard
 pub mod Reporting
