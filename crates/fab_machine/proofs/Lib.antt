@@ -10,11 +10,13 @@ pub mod Noting
 pub mod MoreHeard
 pub mod Reporting
 pub mod Waiting
+pub mod Marking
 pub mod Locals
 pub mod Quorums
 pub mod Certificates
 pub mod Made
 pub mod States
+pub mod CheckpointStates
 pub mod Putting
 pub mod Telling
 pub mod Hearing

@@ -1,14 +1,16 @@
 -- What a shaped message shows of what stands in it, and how a message is shown to be shaped.
-use Rattle.std.proofs.Common.{◌≡◌, ℕ, ◌+◌, ◌≤◌, Bool, true, false, ◌&&◌, nat_le, List, [], ◌∷◌, ◌++◌, inl, inr, refl, sym, ap, ◌∙◌}
+use Rattle.std.proofs.Common.{◌≡◌, ℕ, ◌+◌, ◌<◌, ◌≤◌, Bool, true, false, ◌&&◌, nat_le, List, [], ◌∷◌, ◌++◌, inl, inr, refl, sym, ap, subst, ◌∙◌}
 use Rattle.std.specs.Option.{is_some}
 use Rattle.fab_base.specs.declared.limits.TheConstants.{GREATEST_NUMBER}
 use Rattle.fab_base.specs.Limits.{Roster}
-use Rattle.fab_base.specs.Roster.{is_client}
+use Rattle.fab_base.specs.Roster.{is_cluster, is_client, size_of}
+use Rattle.fab_base.specs.declared.ids.ReplicaId.{ReplicaId}
 use Rattle.fab_base.specs.declared.requests.Request.{Request}
 use Rattle.fab_base.specs.declared.messages.Vote.{Vote}
+use Rattle.fab_base.specs.declared.messages.StableVote.{StableVote}
 use Rattle.fab_base.specs.declared.messages.PrePrepare.{PrePrepare}
 use Rattle.fab_base.specs.declared.messages.Message.{Message}
-use Rattle.fab_base.proofs.Tests.{and_left, and_right, at_most}
+use Rattle.fab_base.proofs.Tests.{and_left, and_right, at_most, below}
 use Rattle.fab_rules.specs.declared.misfits.Misfit.{Misfit}
 use Rattle.fab_rules.specs.Lists.{In}
 use Rattle.fab_rules.specs.Format.{request_fits, batch_fits}
@@ -79,6 +81,13 @@ prepare_slot r v shaped = vote_slot v (part_keeps r (Message.Prepare v) (Message
 pub commit_slot : (r : Roster) (m : Message) (v : Vote) → IsShaped r m → In (Message.Commit v) (statements_of m) → v.slot ≤ GREATEST_NUMBER
 commit_slot r m v shaped h =
     vote_slot v (part_keeps r m (Message.Commit v) shaped (of_filter (λ p. is_some (signer_of p)) (Message.Commit v) (parts_of m) h).0)
+
+-- a Checkpoint of the own cluster is of a member
+pub checkpoint_member : (r : Roster) (me : ReplicaId) (v : StableVote) → IsShaped r (Message.Checkpoint v) → v.signer.cluster ≡ me.cluster
+    → v.signer.index < size_of r me.cluster
+checkpoint_member r me v shaped own =
+    let known = part_known r (Message.Checkpoint v) (Message.Checkpoint v) shaped (inl refl) in
+    subst (λ k. v.signer.index < size_of r k) own (below v.signer.index (size_of r v.signer.cluster) (and_right (is_cluster r v.signer.cluster) _ known))
 
 -- ---- proposals
 

@@ -12,15 +12,17 @@ use Rattle.fab_base.specs.declared.requests.Request.{Request}
 use Rattle.fab_base.specs.declared.messages.Message.{Message}
 use Rattle.fab_base.proofs.Tests.{and_both, is_at_most, is_below, are_same}
 use Rattle.fab_rules.specs.Lists.{In}
-use Rattle.fab_rules.specs.Format.{is_u64, id_fits, digest_fits, request_fits, batch_fits, vote_fits, proposal_fits, line_fits, lines_fit, note_fits}
+use Rattle.fab_rules.specs.Format.{is_u64, id_fits, digest_fits, request_fits, batch_fits, vote_fits, stable_vote_fits, proposal_fits, line_fits, lines_fit, note_fits}
 use Rattle.fab_rules.specs.Format as format
 use Rattle.fab_rules.specs.Shape.{is_view, is_slot, is_vote, is_batch_of, is_primary, is_proposal, IsShaped}
 use Rattle.fab_rules.specs.Ledger.{RunBlock, lines_with, lines_of}
 use Rattle.fab_rules.proofs.Lists.{all_pass, of_map}
 use Rattle.fab_rules.proofs.Digests.{batch_digest_fits}
+use Rattle.fab_machine.specs.State.{Due}
 use Rattle.fab_machine.specs.Items.{vote_of, proposal_of}
+use Rattle.fab_machine.specs.Checkpointing.{checkpoint_of}
 use Rattle.fab_machine.specs.Step.{note_of}
-use Rattle.fab_rules.proofs.Lengths.{prepare_is_spelled, commit_is_spelled, proposal_is_spelled, note_is_spelled}
+use Rattle.fab_rules.proofs.Lengths.{prepare_is_spelled, commit_is_spelled, checkpoint_is_spelled, proposal_is_spelled, note_is_spelled}
 use Rattle.fab_machine.proofs.Members.{IsMember}
 use Rattle.fab_machine.proofs.Shaped.{IsPlainPart, nothing_wrong, client_known, shaped_request_fits}
 
@@ -64,6 +66,22 @@ shaped_commit r me view slot d is v s t digest =
     record {
       spelled = commit_is_spelled (vote_of me view slot d) (put_vote_fits r me view slot d is v t digest);
       fitting = nothing_wrong r m (λ p h. alone r m p (record { known = is.known; keeps = put_vote_is me view slot d v s t; plain = λ j. refl }) h);
+    }
+
+-- ---- a Checkpoint
+
+pub put_checkpoint_fits : (r : Roster) (me : ReplicaId) (d : Due) → IsMember r me → d.round ≤ GREATEST_NUMBER → digest_fits d.digest ≡ true
+    → stable_vote_fits (checkpoint_of me d) ≡ true
+put_checkpoint_fits r me d is t digest =
+    and_both (id_fits me) _ is.fits (and_both (is_u64 d.round) _ (wide_enough d.round t) (and_both (digest_fits d.digest) _ digest refl))
+
+pub shaped_checkpoint : (r : Roster) (me : ReplicaId) (d : Due) → IsMember r me → 1 ≤ d.round → d.round ≤ GREATEST_NUMBER
+    → digest_fits d.digest ≡ true → IsShaped r (Message.Checkpoint (checkpoint_of me d))
+shaped_checkpoint r me d is s t digest =
+    let m = Message.Checkpoint (checkpoint_of me d) in
+    record {
+      spelled = checkpoint_is_spelled (checkpoint_of me d) (put_checkpoint_fits r me d is t digest);
+      fitting = nothing_wrong r m (λ p h. alone r m p (record { known = is.known; keeps = is_slot_from d.round s t; plain = λ j. refl }) h);
     }
 
 -- ---- a proposal

@@ -1,5 +1,5 @@
 -- What a state of local ordering keeps by itself, it keeps through every call; and what a call brings about is as it should be.
-use Rattle.std.proofs.Common.{◌≡◌, ℕ, ◌+◌, ◌%◌, ◌<◌, ◌≤◌, Bool, true, false, not, cond, nat_le, nat_lt, nat_eq, ◌||◌, List, [], ◌∷◌, ◌++◌, length, take, Option, Some, None, Result, Ok, Err, inl, inr, refl, sym, ap, subst, ◌∙◌, arith}
+use Rattle.std.proofs.Common.{◌≡◌, ℕ, ◌+◌, ◌%◌, ◌<◌, ◌≤◌, Bool, true, false, not, cond, nat_le, nat_lt, nat_eq, ◌||◌, List, [], ◌∷◌, ◌++◌, length, take, Option, Some, None, Result, Ok, Err, ◌⊎◌, inl, inr, refl, sym, ap, subst, ◌∙◌, arith}
 use Rattle.std.proofs.lemmas.Bool.Decides.{nat_tests}
 use Rattle.std.proofs.lemmas.List.{length-set}
 use Rattle.fab_base.specs.declared.limits.TheConstants.{GREATEST_NUMBER}
@@ -11,6 +11,7 @@ use Rattle.fab_base.specs.declared.requests.Request.{Request}
 use Rattle.fab_base.specs.declared.requests.Outcome.{Outcome}
 use Rattle.fab_base.specs.declared.messages.Vote.{Vote}
 use Rattle.fab_base.specs.declared.messages.PrePrepare.{PrePrepare}
+use Rattle.fab_base.specs.declared.messages.StableVote.{StableVote}
 use Rattle.fab_base.specs.declared.messages.PreparedCert.{PreparedCert}
 use Rattle.fab_base.specs.declared.messages.CommitCert.{CommitCert}
 use Rattle.fab_base.specs.declared.messages.Message.{Message}
@@ -19,36 +20,60 @@ use Rattle.fab_base.specs.declared.answers.Take.{Take}
 use Rattle.fab_base.proofs.Tests.{same}
 use Rattle.fab_rules.specs.Lists.{In}
 use Rattle.fab_rules.specs.Digests.{batch_digest}
+use Rattle.fab_rules.specs.Format.{digest_fits}
 use Rattle.fab_rules.specs.Shape.{is_batch_of, is_primary, IsShaped}
+use Rattle.checkpoint_core.specs.Checkpoints.{Checkpoints, vote_answer, after_vote}
 use Rattle.pbft_slots.specs.declared.slot.Proposal.{Proposal}
 use Rattle.pbft_slots.specs.Ballots.{Counted}
 use Rattle.pbft_slots.specs.Window.{Window, high, refusal_by, place_in, pre_prepare_answer, prepare_answer, commit_answer, after_pre_prepare, after_prepare, after_commit}
-use Rattle.fab_machine.specs.State.{Proposed, Local, wanted, wanted_by}
+use Rattle.fab_rules.proofs.Lists.{in_append_cases}
+use Rattle.fab_machine.specs.State.{Proposed, Due, Local, wanted, wanted_by}
 use Rattle.fab_machine.specs.Voting.{Told, unmoved, with_certificate, prepared_certificate, keep_prepared, newly_prepared, after_count, outs_after, vote_refusal, kept_by, refused, proposal_told, prepare_told, commit_told, proposal_by, prepare_by, commit_by}
 use Rattle.fab_machine.specs.Requests.{request_answer, waiting_by}
+use Rattle.fab_machine.specs.Hearing.{hear_checkpoint, hear}
 use Rattle.fab_machine.specs.Proposing.{eligible, proposed, is_due, propose_in, propose}
-use Rattle.fab_machine.specs.Serving.{stamps_after, still_waiting, still_proposed, served}
-use Rattle.fab_machine.specs.Step.{hear}
-use Rattle.fab_machine.specs.LocalState.{IsHeldBatch, IsKeptVote, AreHeld, AreWaiting, IsLocalState}
+use Rattle.fab_machine.specs.Serving.{stamps_after, still_waiting, still_proposed, due_by, served}
+use Rattle.fab_machine.specs.LocalState.{IsHeldBatch, IsKeptVote, AreHeld, AreWaiting, AreMarked, IsLocalState}
 use Rattle.fab_machine.specs.declared.outs.Out.{Out}
 use Rattle.fab_machine.proofs.Members.{IsMember}
-use Rattle.fab_machine.proofs.Shaped.{prepare_slot, commit_slot, proposal_slot, proposal_homes, shaped_proposal_fits, shaped_request_fits}
+use Rattle.fab_machine.proofs.Shaped.{prepare_slot, commit_slot, checkpoint_member, proposal_slot, proposal_homes, shaped_proposal_fits, shaped_request_fits}
 use Rattle.fab_machine.proofs.Windows.{IsLater, later_by_proposal, later_by_prepare, later_by_commit, IsThisVote, prepare_heard, commit_heard, proposal_heard, proposal_after_prepare, proposal_after_commit, commit_after_prepare, prepare_after_commit, prepare_after_proposal, commit_after_proposal}
 use Rattle.fab_machine.proofs.Waiting.{waiting_filtered, waiting_answered}
+use Rattle.fab_machine.proofs.Marking.{marked_later, marked_vote, marked_due}
 use Rattle.fab_machine.proofs.Made.{AreMade, none_made, put_is_not_certified, counted_made, prepare_made, proposed_made}
 
 -- ---- a change beside the view, its slots and its certificates
 
 pub state_beside : (r : Roster) (me : ReplicaId) (l : Local) (next : ℕ) (proposed : List Proposed) (waiting : List Request) (last : List ℕ) (executed : ℕ)
-    (kept : List Message) → l.next ≤ next → AreWaiting r me waiting → IsLocalState r me l
+    (kept : List Message) → l.next ≤ next → l.executed ≤ executed → executed ≤ GREATEST_NUMBER → AreWaiting r me waiting
+    → ((m : Message) → In m kept → IsShaped r m) → IsLocalState r me l
     → IsLocalState r me (record l { next = next; proposed = proposed; waiting = waiting; last = last; executed = executed; kept = kept })
-state_beside r me l next proposed waiting last executed kept later wait is = record {
+state_beside r me l next proposed waiting last executed kept later more fits wait shaped is = record {
   view_fits = is.view_fits;
   wants = is.wants;
   next_from = omega (arith, is.next_from, later);
+  executed_fits = fits;
   opened = is.opened;
   held = is.held;
   waiting = wait;
+  kept = shaped;
+  marked = marked_later r me l.slots.low l.executed executed l.checkpoints l.due more is.marked;
+}
+
+-- ---- other Checkpoints count, or others are due
+
+pub state_marked : (r : Roster) (me : ReplicaId) (l : Local) (checkpoints : Checkpoints) (due : List Due)
+    → AreMarked r me l.slots.low l.executed checkpoints due → IsLocalState r me l → IsLocalState r me (record l { checkpoints = checkpoints; due = due })
+state_marked r me l checkpoints due marked is = record {
+  view_fits = is.view_fits;
+  wants = is.wants;
+  next_from = is.next_from;
+  executed_fits = is.executed_fits;
+  opened = is.opened;
+  held = is.held;
+  waiting = is.waiting;
+  kept = is.kept;
+  marked = marked;
 }
 
 -- ---- more was heard of the slots
@@ -59,6 +84,7 @@ state_later r me l now later held is = record {
   view_fits = is.view_fits;
   wants = is.wants;
   next_from = is.next_from;
+  executed_fits = is.executed_fits;
   opened = record {
     window = later.whole;
     members = later.members_is ∙ is.opened.members;
@@ -67,6 +93,8 @@ state_later r me l now later held is = record {
   };
   held = held;
   waiting = is.waiting;
+  kept = is.kept;
+  marked = subst (λ low. AreMarked r me low l.executed l.checkpoints l.due) (sym later.low_is) is.marked;
 }
 
 -- ---- a prepared certificate is kept
@@ -82,6 +110,7 @@ state_kept r me l slot k is = record {
   view_fits = is.view_fits;
   wants = is.wants;
   next_from = is.next_from;
+  executed_fits = is.executed_fits;
   opened = record {
     window = is.opened.window;
     members = is.opened.members;
@@ -90,6 +119,8 @@ state_kept r me l slot k is = record {
   };
   held = is.held;
   waiting = is.waiting;
+  kept = is.kept;
+  marked = is.marked;
 }
 
 -- ---- which messages are for the open slots of the view
@@ -222,16 +253,24 @@ pub record IsToldState (r : Roster) (me : ReplicaId) (old : Local) (t : Told) : 
 unmoved_state : (r : Roster) (me : ReplicaId) (l : Local) (a : Answer) → IsLocalState r me l → IsToldState r me l (unmoved l a)
 unmoved_state r me l a is = record { is = is; still = record { wanted_is = refl; executed_is = refl; last_is = refl }; made = none_made r }
 
-refused_state : (r : Roster) (me : ReplicaId) (l : Local) (m : Message) (how : Take) → IsLocalState r me l → IsToldState r me l (refused l m how)
-refused_state r me l m how is = record {
-  is = state_beside r me l l.next l.proposed l.waiting l.last l.executed (kept_by how l.kept m) (omega arith) is.waiting is;
+-- what is kept then was kept, or it is this one
+pub in_kept : (how : Take) (kept : List Message) (m x : Message) → In x (kept_by how kept m) → In x kept ⊎ (m ≡ x)
+in_kept (Take.Ahead view) kept m x h = elim (in_append_cases x kept (m ∷ []) h) [ inl old ↦ inl old | inr (inl e) ↦ inr e | inr (inr none) ↦ absurd none ]
+in_kept (Take.Far high) kept m x h = elim (in_append_cases x kept (m ∷ []) h) [ inl old ↦ inl old | inr (inl e) ↦ inr e | inr (inr none) ↦ absurd none ]
+in_kept how kept m x h = inl h
+
+refused_state : (r : Roster) (me : ReplicaId) (l : Local) (m : Message) (how : Take) → IsShaped r m → IsLocalState r me l
+    → IsToldState r me l (refused l m how)
+refused_state r me l m how fine is = record {
+  is = state_beside r me l l.next l.proposed l.waiting l.last l.executed (kept_by how l.kept m) (omega arith) (omega arith) is.executed_fits is.waiting
+      (λ x h. elim (in_kept how l.kept m x h) [ inl old ↦ is.kept x old | inr e ↦ subst (IsShaped r) e fine ]) is;
   still = record { wanted_is = refl; executed_is = refl; last_is = refl };
   made = none_made r;
 }
 
 hear_proposal_state : (r : Roster) (me : ReplicaId) (l : Local) (p : PrePrepare) → IsMember r me → IsShaped r (Message.PrePrepare p) → IsLocalState r me l
     → (o : Option Take) → vote_refusal me l p.signer.cluster p.view p.slot ≡ o → IsToldState r me l (proposal_by r me l p o)
-hear_proposal_state r me l p member fine is (Some how) e = refused_state r me l (Message.PrePrepare p) how is
+hear_proposal_state r me l p member fine is (Some how) e = refused_state r me l (Message.PrePrepare p) how fine is
 hear_proposal_state r me l p member fine is None e = go (pre_prepare_answer l.slots p.slot (batch_digest p.batch))
   where
     now : IsLocalState r me (record l { slots = proposal_counted l p })
@@ -250,7 +289,7 @@ hear_proposal_state r me l p member fine is None e = go (pre_prepare_answer l.sl
 
 hear_prepare_state : (r : Roster) (me : ReplicaId) (l : Local) (v : Vote) → IsMember r me → IsShaped r (Message.Prepare v) → IsLocalState r me l
     → (o : Option Take) → vote_refusal me l v.signer.cluster v.view v.slot ≡ o → IsToldState r me l (prepare_by r me l v o)
-hear_prepare_state r me l v member fine is (Some how) e = refused_state r me l (Message.Prepare v) how is
+hear_prepare_state r me l v member fine is (Some how) e = refused_state r me l (Message.Prepare v) how fine is
 hear_prepare_state r me l v member fine is None e = go (prepare_answer l.slots v.signer.index v.slot v.digest)
   where
     now : IsLocalState r me (record l { slots = prepare_counted l v })
@@ -266,7 +305,7 @@ hear_prepare_state r me l v member fine is None e = go (prepare_answer l.slots v
 
 hear_commit_state : (r : Roster) (me : ReplicaId) (l : Local) (v : Vote) → IsMember r me → IsShaped r (Message.Commit v) → IsLocalState r me l
     → (o : Option Take) → vote_refusal me l v.signer.cluster v.view v.slot ≡ o → IsToldState r me l (commit_by r me l v o)
-hear_commit_state r me l v member fine is (Some how) e = refused_state r me l (Message.Commit v) how is
+hear_commit_state r me l v member fine is (Some how) e = refused_state r me l (Message.Commit v) how fine is
 hear_commit_state r me l v member fine is None e = go (commit_answer l.slots v.signer.index v.slot v.digest)
   where
     now : IsLocalState r me (record l { slots = commit_counted l v })
@@ -284,7 +323,25 @@ pub request_state : (r : Roster) (me : ReplicaId) (l : Local) (x : Request) → 
     → IsLocalState r me (record l { waiting = waiting_by (request_answer r me l x) l.waiting x })
 request_state r me l x fine is =
     let now = waiting_by (request_answer r me l x) l.waiting x in
-    state_beside r me l l.next l.proposed now l.last l.executed l.kept (omega arith) (waiting_answered r me l x (shaped_request_fits r x fine) is.waiting) is
+    state_beside r me l l.next l.proposed now l.last l.executed l.kept (omega arith) (omega arith) is.executed_fits
+    (waiting_answered r me l x (shaped_request_fits r x fine) is.waiting) is.kept is
+
+hear_checkpoint_state : (r : Roster) (me : ReplicaId) (l : Local) (v : StableVote) → IsShaped r (Message.Checkpoint v) → IsLocalState r me l
+    → IsToldState r me l (hear_checkpoint me l v)
+hear_checkpoint_state r me l v fine is = go (nat_eq v.signer.cluster me.cluster) refl
+  where
+    go : (b : Bool) → nat_eq v.signer.cluster me.cluster ≡ b
+        → IsToldState r me l (cond (not b) (unmoved l (Answer.Heard Take.Stray))
+        (record { answer = Answer.Heard (vote_answer l.checkpoints v); local = record l { checkpoints = after_vote l.checkpoints v }; outs = [] }))
+    go false e = unmoved_state r me l (Answer.Heard Take.Stray) is
+    go true e =
+        let own = same v.signer.cluster me.cluster e in
+        let marked = marked_vote r me l.slots.low l.executed l.checkpoints l.due v own (checkpoint_member r me v fine own) is.marked in
+        record {
+          is = state_marked r me l (after_vote l.checkpoints v) l.due marked is;
+          still = record { wanted_is = refl; executed_is = refl; last_is = refl };
+          made = none_made r;
+        }
 
 pub hear_state : (r : Roster) (me : ReplicaId) (l : Local) (m : Message) → IsMember r me → IsShaped r m → IsLocalState r me l → IsToldState r me l (hear r me l m)
 hear_state r me l (Message.Request x) member fine is =
@@ -292,6 +349,7 @@ hear_state r me l (Message.Request x) member fine is =
 hear_state r me l (Message.PrePrepare p) member fine is = hear_proposal_state r me l p member fine is (vote_refusal me l p.signer.cluster p.view p.slot) refl
 hear_state r me l (Message.Prepare v) member fine is = hear_prepare_state r me l v member fine is (vote_refusal me l v.signer.cluster v.view v.slot) refl
 hear_state r me l (Message.Commit v) member fine is = hear_commit_state r me l v member fine is (vote_refusal me l v.signer.cluster v.view v.slot) refl
+hear_state r me l (Message.Checkpoint v) member fine is = hear_checkpoint_state r me l v fine is
 hear_state r me l m member fine is = unmoved_state r me l (Answer.Heard Take.Stray) is
 
 -- ---- Batch and Nudge
@@ -325,7 +383,7 @@ module _ (P : Told → Type 0) (r : Roster) (me : ReplicaId) (l : Local) (nudged
 proposed_state : (r : Roster) (me : ReplicaId) (l : Local) (batch : List Request) → IsLocalState r me l → IsLocalState r me (proposed r me l batch).local
 proposed_state r me l batch is =
     let ps = l.proposed ++ record { slot = l.next; batch = batch } ∷ [] in
-    state_beside r me l (l.next + 1) ps l.waiting l.last l.executed l.kept (omega arith) is.waiting is
+    state_beside r me l (l.next + 1) ps l.waiting l.last l.executed l.kept (omega arith) (omega arith) is.executed_fits is.waiting is.kept is
 
 pub propose_state : (r : Roster) (me : ReplicaId) (l : Local) (nudged known : Bool) → IsLocalState r me l → IsLocalState r me (propose r me l nudged known).local
 propose_state r me l nudged known is =
@@ -347,9 +405,14 @@ propose_forms_none r me l nudged known k =
 
 -- ---- an executed round
 
-pub served_state : (r : Roster) (me : ReplicaId) (l : Local) (round : ℕ) (batch : List Request) (outcomes : List Outcome) → IsLocalState r me l
-    → IsLocalState r me (served l round batch outcomes)
-served_state r me l round batch outcomes is =
+-- the next one
+pub served_state : (r : Roster) (me : ReplicaId) (l : Local) (round : ℕ) (batch : List Request) (outcomes : List Outcome) (digest : Hash32)
+    → round ≡ l.executed + 1 → round ≤ GREATEST_NUMBER → digest_fits digest ≡ true → IsLocalState r me l
+    → IsLocalState r me (served r l round batch outcomes digest)
+served_state r me l round batch outcomes digest next low_enough fits is =
     let last = stamps_after l.last batch outcomes in
-    state_beside r me l l.next (still_proposed round l.proposed) (still_waiting last l.waiting) last round l.kept (omega arith)
-    (waiting_filtered r me l.waiting _ is.waiting) is
+    let due = l.due ++ due_by r.interval l.slots.low round digest in
+    let beside = state_beside r me l l.next (still_proposed round l.proposed) (still_waiting last l.waiting) last round l.kept (omega arith) (omega (arith, next))
+    low_enough (waiting_filtered r me l.waiting _ is.waiting) is.kept is in
+    let now : Local = record l { proposed = still_proposed round l.proposed; waiting = still_waiting last l.waiting; last = last; executed = round } in
+    state_marked r me now l.checkpoints due (marked_due r me l.slots.low l.executed r.interval round l.checkpoints l.due digest next fits is.marked) beside

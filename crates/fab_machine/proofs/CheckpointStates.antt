@@ -1,0 +1,1 @@
+-- What a state of local ordering keeps by itself, it keeps through a Checkpoint: through the vote, and through the move of the low mark.
