@@ -1,6 +1,6 @@
 -- What the state of a replica keeps by itself, it keeps through every event: its certificates may be kept, the batches of its ledger fit,
 -- and what waits to be sent has a spelling.
-use Rattle.std.proofs.Common.{◌≡◌, ℕ, ◌+◌, ◌-◌, ◌<◌, ◌≤◌, true, false, List, [], ◌∷◌, ◌++◌, length, Some, Result, Ok, Err, inl, inr, refl, sym, subst, ◌∙◌, arith, length-append}
+use Rattle.std.proofs.Common.{◌≡◌, ℕ, ◌+◌, ◌-◌, ◌<◌, ◌≤◌, true, false, List, [], ◌∷◌, ◌++◌, length, Some, Result, Ok, Err, inl, inr, refl, sym, ap, subst, ◌∙◌, arith, length-append}
 use Rattle.std.specs.List.{slice_get}
 use Rattle.fab_base.specs.declared.limits.TheConstants.{GREATEST_NUMBER}
 use Rattle.fab_base.specs.Limits.{Roster}
@@ -11,13 +11,16 @@ use Rattle.fab_base.specs.declared.answers.Item.{Item}
 use Rattle.fab_rules.specs.declared.blocks.Block.{Block}
 use Rattle.fab_rules.specs.Lists.{In}
 use Rattle.fab_rules.specs.Format.{batch_fits, fits}
-use Rattle.fab_rules.specs.Ledger.{start_of}
+use Rattle.fab_rules.specs.Ledger.{chain_start, start_of}
+use Rattle.fab_rules.proofs.Digests.{chain_start_fits, chain_from_fits}
 use Rattle.fab_rules.proofs.Fitting.{few_requests, each_request_fits}
 use Rattle.fab_rules.proofs.Lists.{in_append_cases}
 use Rattle.fab_machine.specs.State.{Rounds, Replica, fresh}
 use Rattle.fab_machine.specs.Voting.{Told}
-use Rattle.fab_machine.specs.Rounds.{certificate_for, keep, keep_answer, block_of, next_round, with_round}
-use Rattle.fab_machine.specs.Step.{Event, after_out, after_outs, after_told, hear, note_item, after_noting, emit_step, execute_step, step}
+use Rattle.fab_machine.specs.Hearing.{hear}
+use Rattle.fab_machine.specs.Checkpointing.{checkpoint}
+use Rattle.fab_machine.specs.Rounds.{certificate_for, keep, keep_answer, block_of, next_round, with_round, chain}
+use Rattle.fab_machine.specs.Step.{Event, after_out, after_outs, after_told, note_item, after_noting, emit_step, execute_step, step}
 use Rattle.fab_machine.specs.Diaries.{MayCome}
 use Rattle.fab_machine.specs.ReplicaState.{IsKeptCertificate, AreRoundsState, IsReplicaState}
 use Rattle.fab_machine.specs.declared.outs.Out.{Out}
@@ -27,6 +30,7 @@ use Rattle.fab_machine.proofs.Shaping.{shaped_note}
 use Rattle.fab_machine.proofs.Values.{run_fits}
 use Rattle.fab_machine.proofs.Made.{AreMade}
 use Rattle.fab_machine.proofs.States.{IsToldState, hear_state, propose_told_state, served_state}
+use Rattle.fab_machine.proofs.CheckpointStates.{checkpoint_state}
 use Rattle.fab_machine.proofs.Stepping.{kept_cases}
 use Rattle.fab_machine.proofs.Keeping.{is_whole}
 use Rattle.fab_machine.proofs.Blocks.{is_for}
@@ -142,8 +146,9 @@ executed_state r me s blocks member found is =
     let lines = run_fits (start_of r) all (length old + (me.cluster - 1)) x.ran requests (λ p h. absurd h) x.at in
     let few = few_requests x.ran.block.batch (fit x.ran.block x.inside) in
     let note = shaped_note r me (e + 1) x.ran member (omega arith) next.low_enough few lines in
-    let now : IsReplicaState r me (after_noting me s rounds (Some x.ran)) = record {
-      local = served_state r me s.local (e + 1) x.ran.block.batch x.ran.outcomes is.local;
+    let now : IsReplicaState r me (after_noting r me s rounds (Some x.ran)) = record {
+      local = served_state r me s.local (e + 1) x.ran.block.batch x.ran.outcomes (chain rounds) (ap (λ n. n + 1) is.told) next.low_enough
+          (chain_from_fits chain_start all chain_start_fits) is.local;
       rounds = record {
         kept = is.rounds.kept;
         whole = one_more e (length r.sizes) (length old) (length blocks) (length all) (length-append old blocks) is.rounds.whole next.count;
@@ -152,7 +157,7 @@ executed_state r me s blocks member found is =
       told = refl;
       spelled = spelled_more s.outbox (note_item me (e + 1) x.ran) is.spelled note.spelled;
     } in
-    subst (λ o. IsReplicaState r me (after_noting me s rounds o)) (sym x.found) now
+    subst (λ o. IsReplicaState r me (after_noting r me s rounds o)) (sym x.found) now
 
 execute_state : (r : Roster) (me : ReplicaId) (s : Replica) → IsMember r me → IsReplicaState r me s
     → IsReplicaState r me (execute_step r me s (next_round (length r.sizes) s.rounds)).state
@@ -171,3 +176,4 @@ step_state r me s Event.Batch member fine is = told_state r me s _ (propose_told
 step_state r me s Event.Nudge member fine is = told_state r me s _ (propose_told_state r me s.local true _ member is.local) is
 step_state r me s (Event.Emit sig) member fine is = emit_state r me s sig is
 step_state r me s Event.Execute member fine is = execute_state r me s member is
+step_state r me s Event.Checkpoint member fine is = told_state r me s (checkpoint r me s.local) (checkpoint_state r me s.local member is.local) is

@@ -22,11 +22,11 @@ use Rattle.fab_rules.specs.Lists.{In}
 use Rattle.fab_rules.specs.Digests.{batch_digest}
 use Rattle.fab_rules.specs.Format.{digest_fits}
 use Rattle.fab_rules.specs.Shape.{is_batch_of, is_primary, IsShaped}
+use Rattle.fab_rules.proofs.Lists.{in_append_cases}
 use Rattle.checkpoint_core.specs.Checkpoints.{Checkpoints, vote_answer, after_vote}
 use Rattle.pbft_slots.specs.declared.slot.Proposal.{Proposal}
 use Rattle.pbft_slots.specs.Ballots.{Counted}
 use Rattle.pbft_slots.specs.Window.{Window, high, refusal_by, place_in, pre_prepare_answer, prepare_answer, commit_answer, after_pre_prepare, after_prepare, after_commit}
-use Rattle.fab_rules.proofs.Lists.{in_append_cases}
 use Rattle.fab_machine.specs.State.{Proposed, Due, Local, wanted, wanted_by}
 use Rattle.fab_machine.specs.Voting.{Told, unmoved, with_certificate, prepared_certificate, keep_prepared, newly_prepared, after_count, outs_after, vote_refusal, kept_by, refused, proposal_told, prepare_told, commit_told, proposal_by, prepare_by, commit_by}
 use Rattle.fab_machine.specs.Requests.{request_answer, waiting_by}
@@ -250,7 +250,7 @@ pub record IsToldState (r : Roster) (me : ReplicaId) (old : Local) (t : Told) : 
   pub still : IsStill old t.local
   pub made : AreMade r t.outs
 
-unmoved_state : (r : Roster) (me : ReplicaId) (l : Local) (a : Answer) → IsLocalState r me l → IsToldState r me l (unmoved l a)
+pub unmoved_state : (r : Roster) (me : ReplicaId) (l : Local) (a : Answer) → IsLocalState r me l → IsToldState r me l (unmoved l a)
 unmoved_state r me l a is = record { is = is; still = record { wanted_is = refl; executed_is = refl; last_is = refl }; made = none_made r }
 
 -- what is kept then was kept, or it is this one

@@ -2,6 +2,8 @@
 ghost use Rattle.std.specs.Prelude.{◌≡◌, ℕ, ◌+◌, ◌<◌, ◌≤◌, Bool, true, false, List, [], length, take, Option, Some, None, IsSome, IsTrue, Ok, Err, slice_get};
 ghost use Rattle.fab_base.specs.Limits.{Roster, IsWithinLimits};
 ghost use Rattle.fab_base.specs.Roster.{is_replica};
+ghost use Rattle.fab_base.specs.declared.limits.TheConstants.{GREATEST_NUMBER};
+ghost use Rattle.fab_base.specs.declared.ids.Hash32.{Hash32};
 ghost use Rattle.fab_base.specs.declared.ids.ReplicaId.{ReplicaId};
 ghost use Rattle.fab_base.specs.declared.requests.Request.{Request};
 ghost use Rattle.fab_base.specs.declared.requests.Outcome.{Outcome};
@@ -9,6 +11,7 @@ ghost use Rattle.fab_base.specs.declared.messages.CommitCert.{CommitCert};
 ghost use Rattle.fab_base.specs.declared.messages.Message.{Message};
 ghost use Rattle.fab_rules.specs.declared.blocks.Block.{Block};
 ghost use Rattle.fab_rules.specs.Lists.{In};
+ghost use Rattle.fab_rules.specs.Format.{digest_fits};
 ghost use Rattle.fab_rules.specs.Shape.{IsShaped};
 ghost use Rattle.fab_rules.specs.Diary.{Entry, Heard};
 ghost use Rattle.fab_rules.specs.Rules.{KeepsRules, IsHonest};
@@ -17,7 +20,9 @@ ghost use Rattle.fab_machine.specs.Requests.{InOrder};
 ghost use Rattle.fab_machine.specs.Proposing.{eligible, propose};
 ghost use Rattle.fab_machine.specs.Serving.{served};
 ghost use Rattle.fab_machine.specs.Rounds.{round_of, certificate_for, keep, block_of, next_round};
-ghost use Rattle.fab_machine.specs.Step.{Event, hear, step, moves};
+ghost use Rattle.fab_machine.specs.Hearing.{hear};
+ghost use Rattle.fab_machine.specs.Checkpointing.{checkpoint};
+ghost use Rattle.fab_machine.specs.Step.{Event, step, moves};
 ghost use Rattle.fab_machine.specs.Diaries.{MayCome, diary_after, diary_of};
 ghost use Rattle.fab_machine.specs.LocalState.{IsLocalState};
 ghost use Rattle.fab_machine.specs.ReplicaState.{IsKeptCertificate, IsReplicaState};
@@ -55,8 +60,9 @@ pub fn local_law()
 {}
 
 /// What a state of local ordering keeps by itself, whatever it heard before: it holds at the start (`starts`), and after a shaped
-/// message (`hears`), a proposal (`proposes`) and an executed round (`serves`). Each commit certificate that is formed is one that may
-/// be kept (`certifies`); a proposal forms none (`proposes_none`).
+/// message (`hears`), a proposal (`proposes`), the next executed round (`serves`) and a Checkpoint, where it votes or moves the low mark
+/// (`checkpoints`). Each commit certificate that is formed is one that may be kept, by a message (`certifies`) and by those that are
+/// considered again when the mark moves (`checkpoint_certifies`); a proposal forms none (`proposes_none`).
 pub fn state_law()
     ensures starts { (r : Roster) (me : ReplicaId) → IsWithinLimits r → IsTrue (is_replica r me) → IsLocalState r me (fresh_local r me) }
     ensures hears { (r : Roster) (me : ReplicaId) (l : Local) (m : Message) → IsWithinLimits r → IsTrue (is_replica r me) → IsShaped r m
@@ -67,8 +73,13 @@ pub fn state_law()
         → IsLocalState r me (propose r me l nudged known).local }
     ensures proposes_none { (r : Roster) (me : ReplicaId) (l : Local) (nudged known : Bool) (k : CommitCert)
         → In (Out.Certified k) (propose r me l nudged known).outs → ⊥ }
-    ensures serves { (r : Roster) (me : ReplicaId) (l : Local) (round : ℕ) (batch : List Request) (outcomes : List Outcome) → IsLocalState r me l
-        → IsLocalState r me (served l round batch outcomes) }
+    ensures serves { (r : Roster) (me : ReplicaId) (l : Local) (round : ℕ) (batch : List Request) (outcomes : List Outcome) (digest : Hash32)
+        → round ≡ l.executed + 1 → round ≤ GREATEST_NUMBER → IsTrue (digest_fits digest) → IsLocalState r me l
+        → IsLocalState r me (served r l round batch outcomes digest) }
+    ensures checkpoints { (r : Roster) (me : ReplicaId) (l : Local) → IsWithinLimits r → IsTrue (is_replica r me) → IsLocalState r me l
+        → IsLocalState r me (checkpoint r me l).local }
+    ensures checkpoint_certifies { (r : Roster) (me : ReplicaId) (l : Local) (k : CommitCert) → IsWithinLimits r → IsTrue (is_replica r me)
+        → IsLocalState r me l → In (Out.Certified k) (checkpoint r me l).outs → IsKeptCertificate r k }
 {}
 
 /// What the state of a whole replica keeps by itself, whatever it heard before: it holds at the start (`starts`) and after each event
