@@ -1,14 +1,16 @@
 -- Execute keeps the relation: the blocks of the round may be done, its note may be said, and local ordering is told of it.
-use Rattle.std.proofs.Common.{◌≡◌, ℕ, ◌+◌, ◌-◌, ◌*◌, ◌≤◌, true, cond, List, [], ◌∷◌, ◌++◌, length, Option, Some, None, Result, Ok, Err, inl, inr, refl, sym, ap, subst, ◌∙◌, arith, length-append}
+use Rattle.std.proofs.Common.{◌≡◌, ℕ, ◌+◌, ◌-◌, ◌*◌, ◌%◌, ◌<◌, ◌≤◌, Bool, true, false, cond, nat_eq, nat_lt, ◌&&◌, ◌⊎◌, take, eqb-true, List, [], ◌∷◌, ◌++◌, length, Option, Some, None, Result, Ok, Err, inl, inr, refl, sym, ap, subst, ◌∙◌, arith, length-append}
 use Rattle.std.specs.Prelude.{drop}
 use Rattle.std.specs.List.{slice_get}
 use Rattle.std.proofs.Math.Seq.{drop-append_seam, drop-length}
+use Rattle.std.proofs.lemmas.List.{take_all}
 use Rattle.fab_base.specs.declared.limits.TheConstants.{GREATEST_NUMBER}
 use Rattle.fab_base.specs.Limits.{Roster}
 use Rattle.fab_base.specs.Quorums.{quorum_size}
 use Rattle.fab_base.specs.Roster.{home_of, size_of}
 use Rattle.fab_base.specs.Table.{last_of}
 use Rattle.fab_base.specs.declared.ids.ClientId.{ClientId}
+use Rattle.fab_base.specs.declared.ids.Hash32.{Hash32}
 use Rattle.fab_base.specs.declared.ids.ReplicaId.{ReplicaId}
 use Rattle.fab_base.specs.declared.requests.Request.{Request}
 use Rattle.fab_base.specs.declared.messages.CommitCert.{CommitCert}
@@ -16,30 +18,30 @@ use Rattle.fab_base.specs.declared.messages.Message.{Message}
 use Rattle.fab_rules.specs.declared.blocks.Block.{Block}
 use Rattle.fab_rules.specs.Lists.{In}
 use Rattle.fab_rules.specs.Digests.{batch_digest}
-use Rattle.fab_rules.specs.Format.{batch_fits}
+use Rattle.fab_rules.specs.Format.{digest_fits, batch_fits}
 use Rattle.fab_rules.specs.Shape.{IsShaped}
-use Rattle.fab_rules.specs.Ledger.{RunBlock, run_from, run, start_of, state_after_blocks}
+use Rattle.fab_rules.specs.Ledger.{RunBlock, chain_of, run_from, run, start_of, state_after_blocks}
 use Rattle.fab_rules.specs.Diary.{Entry, Heard, Said, ledger, CommitHeard, VoteOf}
 use Rattle.fab_rules.specs.Rules.{KeepsRules, MaySay}
 use Rattle.fab_rules.specs.Growth.{after_saying}
 use Rattle.fab_rules.proofs.Growing.{waiting_grown, waiting_has_grown, rules_before}
-use Rattle.fab_rules.proofs.Lists.{of_filter}
+use Rattle.fab_rules.proofs.Lists.{of_filter, in_append_cases}
 use Rattle.fab_rules.proofs.Fitting.{few_requests, each_request_fits}
-use Rattle.fab_machine.specs.State.{Local, Replica, wanted}
+use Rattle.fab_machine.specs.State.{Due, Local, Replica, wanted}
 use Rattle.fab_machine.specs.Items.{statements_by, statements_in}
-use Rattle.fab_machine.specs.Serving.{stamps_after, still_waiting, still_proposed, served}
-use Rattle.fab_machine.specs.Rounds.{round_of, next_round, with_round}
+use Rattle.fab_machine.specs.Serving.{stamps_after, still_waiting, still_proposed, due_by, served}
+use Rattle.fab_machine.specs.Rounds.{round_of, next_round, with_round, chain}
 use Rattle.fab_machine.specs.Step.{Event, note_of, note_item, after_noting, own_block, execute_step}
 use Rattle.fab_machine.specs.Diaries.{diary_did, diary_after}
-use Rattle.fab_machine.specs.Relation.{IsBatchKnown, AreLocal, IsBacked, full_of, AreFacts, AreRelated}
+use Rattle.fab_machine.specs.Relation.{IsBatchKnown, IsDue, AreLocal, IsBacked, full_of, AreFacts, AreRelated}
 use Rattle.fab_machine.proofs.Lists.{in_at}
 use Rattle.fab_machine.proofs.Members.{IsMember}
 use Rattle.fab_rules.proofs.Saying.{heard_before, still_heard, ledger-after_saying, after_saying-both}
 use Rattle.fab_rules.proofs.Chains.{state_after_blocks-append, run_behind}
 use Rattle.fab_machine.proofs.Shaped.{commit_slot, shaped_batch_fits}
-use Rattle.fab_machine.proofs.Shaping.{shaped_note}
+use Rattle.fab_machine.proofs.Shaping.{chain_fits, shaped_note}
 use Rattle.fab_machine.proofs.Values.{run_fits}
-use Rattle.fab_machine.proofs.Waiting.{waiting_filtered}
+use Rattle.fab_machine.proofs.States.{served_state}
 use Rattle.fab_machine.proofs.MoreHeard.{hears_later, backed_more}
 use Rattle.fab_machine.proofs.Locals.{local_beside, local_said, local_grown, note_quotes}
 use Rattle.fab_machine.proofs.Telling.{own}
@@ -133,6 +135,15 @@ backed_round r full k shaped some h = go h.committed.members h.committed.quorum.
         let slot = commit_slot r x.heard.message x.vote (shaped x.heard.message x.heard.heard) x.heard.inside in
         omega (arith, slot, x.votes_for.slot_is)
 
+-- so the next round is within the limits
+round_within : (r : Roster) (me : ReplicaId) (s : Replica) (blocks : List Block) (full : List Entry) → IsMember r me → IsRun r me s blocks full
+    → next_round (length r.sizes) s.rounds ≡ Ok blocks → s.rounds.executed + 1 ≤ GREATEST_NUMBER
+round_within r me s blocks full is done found =
+    let first = some_certificate s.rounds.certificates (s.rounds.executed + 1) (length r.sizes) blocks (omega (arith, is.from, is.upto)) found in
+    let some : 1 ≤ size_of r first.0.cluster = subst (λ c. 1 ≤ size_of r c) (sym first.1.cluster_is) is.peopled in
+    let bound = backed_round r full first.0 done.local.shaped some (done.backed first.0 first.1.inside) in
+    omega (arith, bound, first.1.round_is)
+
 -- every line of a note fits, since all that was ordered was heard
 own_note_shaped : (r : Roster) (me : ReplicaId) (s : Replica) (blocks : List Block) (full : List Entry) → IsMember r me → IsRun r me s blocks full
     → next_round (length r.sizes) s.rounds ≡ Ok blocks → (x : IsOwn r me s blocks) → IsShaped r (Message.ReplyNote (note_of me (s.rounds.executed + 1) x.ran))
@@ -141,10 +152,7 @@ own_note_shaped r me s blocks full is done found x =
     let all = s.rounds.blocks ++ blocks in
     let fits = λ (b : Block) (h : In b all). known_fits r full b.batch done.local.shaped (block_known r me full b done.rules (subst (λ l. In b l) done.blocks_are h)) in
     let lines = run_fits (start_of r) all (length s.rounds.blocks + (me.cluster - 1)) x.ran (λ b h y q. each_request_fits b.batch y (fits b h) q) (λ p h. absurd h) x.at in
-    let first = some_certificate s.rounds.certificates (e + 1) (length r.sizes) blocks (omega (arith, is.from, is.upto)) found in
-    let some : 1 ≤ size_of r first.0.cluster = subst (λ c. 1 ≤ size_of r c) (sym first.1.cluster_is) is.peopled in
-    let bound = backed_round r full first.0 done.local.shaped some (done.backed first.0 first.1.inside) in
-    shaped_note r me (e + 1) x.ran is (omega arith) (omega (arith, bound, first.1.round_is)) (few_requests x.ran.block.batch (fits x.ran.block x.inside)) lines
+    shaped_note r me (e + 1) x.ran is (omega arith) (round_within r me s blocks full is done found) (few_requests x.ran.block.batch (fits x.ran.block x.inside)) lines
 
 -- ---- the note may be said
 
@@ -175,12 +183,40 @@ note_may r me s blocks full done told x shaped = record {
 
 -- ---- local ordering is told of the round
 
-served_local : (r : Roster) (me : ReplicaId) (l : Local) (round : ℕ) (ran : RunBlock) (full : List Entry) → l.executed ≤ round → AreLocal r me l full
-    → AreLocal r me (served l round ran.block.batch ran.outcomes) full
-served_local r me l round ran full more are =
+-- a round that may newly be due
+due_now : (r : Roster) (l : Local) (low round : ℕ) (digest : Hash32) (full : List Entry) → l.executed < round → round * length r.sizes ≡ length (ledger full)
+    → digest ≡ chain_of (ledger full) → (d : Due) → In d (due_by r.interval low round digest) → (l.executed < d.round) × IsDue r full d
+due_now r l low round digest full new size chain d h = go (nat_lt low round) (nat_eq (round % r.interval) 0) refl h
+  where
+    now : Due
+    now = record { round = round; digest = digest }
+
+    is_due : round % r.interval ≡ 0 → (l.executed < round) × IsDue r full now
+    is_due met = (new, record {
+      met = met;
+      done = omega (arith, size);
+      chain_is = chain ∙ ap chain_of (sym (ap (λ n. take n (ledger full)) size ∙ take_all (length (ledger full)) (ledger full) (omega arith)));
+    })
+
+    go : (a b : Bool) → nat_eq (round % r.interval) 0 ≡ b → In d (cond (a && b) (now ∷ []) []) → (l.executed < d.round) × IsDue r full d
+    go false b e q = absurd q
+    go true false e q = absurd q
+    go true true e (inl same) = subst (λ x. (l.executed < x.round) × IsDue r full x) same (is_due (eqb-true (round % r.interval) 0 e))
+    go true true e (inr none) = absurd none
+
+served_local : (r : Roster) (me : ReplicaId) (l : Local) (round : ℕ) (ran : RunBlock) (digest : Hash32) (full : List Entry) → round ≡ l.executed + 1
+    → round ≤ GREATEST_NUMBER → digest_fits digest ≡ true → round * length r.sizes ≡ length (ledger full) → digest ≡ chain_of (ledger full)
+    → AreLocal r me l full → AreLocal r me (served r l round ran.block.batch ran.outcomes digest) full
+served_local r me l round ran digest full next low_enough fits size chain are =
     let last = stamps_after l.last ran.block.batch ran.outcomes in
-    local_beside r me l l.next (still_proposed round l.proposed) (still_waiting last l.waiting) last round l.kept full (omega arith) more
-    (waiting_filtered r me l.waiting _ are.is.waiting) (λ x h. are.heard.requests x (of_filter _ x l.waiting h).0) are.heard.messages are
+    let more = due_by r.interval l.slots.low round digest in
+    let dues = λ (d : Due) (h : In d (l.due ++ more)). (elim (in_append_cases d l.due more h) as (λ _. In d l.due ⊎ ((l.executed < d.round) × IsDue r full d)) [
+      | inl old ↦ inl old
+      | inr new ↦ inr (due_now r l l.slots.low round digest full (omega (arith, next)) size chain d new)
+    ]) in
+    local_beside r me l l.next (still_proposed round l.proposed) (still_waiting last l.waiting) last round l.kept (l.due ++ more) full (omega arith)
+    (omega (arith, next)) dues (served_state r me l round ran.block.batch ran.outcomes digest next low_enough fits are.is)
+    (λ x h. are.heard.requests x (of_filter _ x l.waiting h).0) are.heard.messages are
 
 -- ---- the step
 
@@ -198,10 +234,12 @@ executed_keeps r me s diary blocks is found rel =
     let note = note_of me round x.ran in
     let m = Message.ReplyNote note in
     let item = note_item me round x.ran in
-    let l = served s.local round x.ran.block.batch x.ran.outcomes in
+    let l = served r s.local round x.ran.block.batch x.ran.outcomes (chain rounds) in
     let shaped = own_note_shaped r me s blocks full is done found x in
     let may = note_may r me s blocks full done rel.rounds.told x shaped in
-    let are = served_local r me s.local round x.ran full (omega (arith, rel.rounds.told)) done.local in
+    let size : round * length r.sizes ≡ length (ledger full) = omega (arith, done.whole, ap length done.blocks_are) in
+    let are = served_local r me s.local round x.ran (chain rounds) full (omega (arith, rel.rounds.told)) (round_within r me s blocks full is done found)
+    (chain_fits rounds.blocks) size (ap chain_of done.blocks_are) done.local in
     let i = me.cluster - 1 in
     let start = start_of r in
     let before = state_after_blocks start old in
@@ -209,7 +247,7 @@ executed_keeps r me s diary blocks is found rel =
     let stamps_are = λ (client : ClientId) (home : home_of r client ≡ me.cluster).
     round_stamps r round 1 i blocks before s.local.last client x.ran (omega (arith, home, is.from)) done.are (rel.rounds.stamps client home) at
     ∙ ap (λ t. last_of t client.number) (sym (state_after_blocks-append start old blocks)) in
-    let now : AreFacts r me (after_noting me s rounds (Some x.ran)) (Said m ∷ full) = record {
+    let now : AreFacts r me (after_noting r me s rounds (Some x.ran)) (Said m ∷ full) = record {
       waits = wait_more (wanted s.local) s.outbox item rel.waits tt;
       rules = (may, done.rules);
       local = local_said r me l m full (note_quotes full note) (omega arith) are;
@@ -225,15 +263,15 @@ executed_keeps r me s diary blocks is found rel =
     let last : after_saying next (statements_in me (s.outbox ++ item ∷ [])) ≡ Said m ∷ full =
     ap (after_saying next) (put_last me s.outbox item)
     ∙ (after_saying-both next (statements_in me s.outbox) (statements_by me m) ∙ ap (after_saying full) mine) in
-    subst (λ o. AreRelated r me (after_noting me s rounds o) next) (sym x.found)
-    (subst (λ f. AreFacts r me (after_noting me s rounds (Some x.ran)) f) (sym last) now)
+    subst (λ o. AreRelated r me (after_noting r me s rounds o) next) (sym x.found)
+    (subst (λ f. AreFacts r me (after_noting r me s rounds (Some x.ran)) f) (sym last) now)
 
 -- what the ledger gained are the blocks of the round
 gained : (r : Roster) (me : ReplicaId) (s : Replica) (blocks : List Block)
     → drop (length s.rounds.blocks) (execute_step r me s (Ok blocks)).state.rounds.blocks ≡ blocks
 gained r me s blocks = go (own_block r me (with_round s.rounds blocks)) ∙ drop-append_seam s.rounds.blocks blocks
   where
-    go : (o : Option RunBlock) → drop (length s.rounds.blocks) (after_noting me s (with_round s.rounds blocks) o).rounds.blocks
+    go : (o : Option RunBlock) → drop (length s.rounds.blocks) (after_noting r me s (with_round s.rounds blocks) o).rounds.blocks
         ≡ drop (length s.rounds.blocks) (s.rounds.blocks ++ blocks)
     go None = refl
     go (Some ran) = refl

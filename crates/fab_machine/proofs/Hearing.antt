@@ -1,5 +1,5 @@
 -- Hearing a proposal, a vote or a request keeps the relation, whatever it is answered.
-use Rattle.std.proofs.Common.{◌≡◌, ℕ, ◌<◌, ◌≤◌, Bool, true, false, cond, List, [], ◌∷◌, ◌++◌, length, Option, Some, None, is_some, inl, inr, refl, sym, ap, subst, ◌∙◌, arith}
+use Rattle.std.proofs.Common.{◌≡◌, ℕ, ◌<◌, ◌≤◌, Bool, true, false, not, cond, nat_eq, List, [], ◌∷◌, ◌++◌, length, Option, Some, None, is_some, inl, inr, refl, sym, ap, subst, ◌∙◌, arith}
 use Rattle.std.specs.Option.{IsSome, option_map, option_and_then}
 use Rattle.std.proofs.lemmas.Bool.{cases_lt}
 use Rattle.fab_base.specs.Limits.{Roster}
@@ -8,6 +8,7 @@ use Rattle.fab_base.specs.declared.ids.ReplicaId.{ReplicaId}
 use Rattle.fab_base.specs.declared.ids.Hash32.{Hash32}
 use Rattle.fab_base.specs.declared.requests.Request.{Request}
 use Rattle.fab_base.specs.declared.messages.Vote.{Vote}
+use Rattle.fab_base.specs.declared.messages.StableVote.{StableVote}
 use Rattle.fab_base.specs.declared.messages.PrePrepare.{PrePrepare}
 use Rattle.fab_base.specs.declared.messages.Message.{Message}
 use Rattle.fab_base.specs.declared.answers.Answer.{Answer}
@@ -23,18 +24,19 @@ use Rattle.pbft_slots.specs.Ballots.{Counted}
 use Rattle.pbft_slots.specs.Slots.{proposal_answer, first_proposal, with_proposal}
 use Rattle.pbft_slots.specs.Window.{Window, high, slot_at, proposal_at, prepared_at, pre_prepare_answer, prepare_answer, commit_answer, answer_by, after_pre_prepare}
 use Rattle.pbft_slots.proofs.Places.{slot_here, slot_is_open, place_far, place_open}
+use Rattle.checkpoint_core.specs.Checkpoints.{Checkpoints, vote_answer, votes_by, after_vote}
 use Rattle.fab_machine.specs.State.{Local, wanted}
 use Rattle.fab_machine.specs.Items.{vote_of}
-use Rattle.fab_machine.specs.Voting.{vote_refusal, kept_by, refused, after_count, outs_after, prepare_told, commit_told, proposal_told, prepare_by, commit_by, proposal_by, hear_prepare, hear_commit, hear_proposal}
+use Rattle.fab_machine.specs.Voting.{unmoved, vote_refusal, kept_by, refused, after_count, outs_after, prepare_told, commit_told, proposal_told, prepare_by, commit_by, proposal_by, hear_prepare, hear_commit, hear_proposal}
 use Rattle.fab_machine.specs.Requests.{request_answer, waiting_by, hear_request}
-use Rattle.fab_machine.specs.Step.{hear}
+use Rattle.fab_machine.specs.Hearing.{hear_checkpoint, hear}
 use Rattle.fab_machine.specs.Relation.{IsBatchKnown, AreHeard, IsPast, AreLocal}
 use Rattle.fab_machine.proofs.Members.{IsMember}
 use Rattle.fab_machine.proofs.Shaped.{prepare_slot, commit_slot, proposal_slot}
 use Rattle.fab_machine.proofs.Windows.{later_by_proposal, later_by_prepare, later_by_commit, prepare_heard, commit_heard, proposal_heard, proposal_after_prepare, proposal_after_commit, commit_after_prepare, prepare_after_commit, prepare_after_proposal, commit_after_proposal}
 use Rattle.fab_machine.proofs.Waiting.{in_answered}
-use Rattle.fab_machine.proofs.States.{counted_still, IsForView, for_view, prepare_counted, commit_counted, proposal_counted, prepare_state, commit_state, proposal_state, request_state}
-use Rattle.fab_machine.proofs.Locals.{local_beside, local_later}
+use Rattle.fab_machine.proofs.States.{counted_still, IsForView, for_view, prepare_counted, commit_counted, proposal_counted, prepare_state, commit_state, proposal_state, refused_state, request_state, checkpoint_counted_state}
+use Rattle.fab_machine.proofs.Locals.{local_beside, local_counting, local_later}
 use Rattle.fab_machine.proofs.Putting.{prepare_may, prepare_noted}
 use Rattle.fab_machine.proofs.Telling.{IsToldOf, told_nothing, unmoved_told, own, calm_view, told_put, told_counted}
 
@@ -59,7 +61,8 @@ refused_told : (r : Roster) (me : ReplicaId) (l : Local) (m : Message) (how : Ta
     → In (Heard m) full → IsToldOf r me l (refused l m how) full
 refused_told r me l m how full rules are heard =
     let now = kept_by how l.kept m in
-    let local = local_beside r me l l.next l.proposed l.waiting l.last l.executed now full (omega arith) (omega arith) are.is.waiting are.heard.requests
+    let is = (refused_state r me l m how (are.shaped m heard) are.is).is in
+    let local = local_beside r me l l.next l.proposed l.waiting l.last l.executed now l.due full (omega arith) (omega arith) (λ d h. inl h) is are.heard.requests
     (kept_heard full how l.kept m heard are.heard.messages) are in
     record {
       told = told_nothing r me (record l { kept = now }) full rules local;
@@ -83,7 +86,7 @@ prepare_told_keeps r me l v full is rules are heard for Take.Taken =
     let c : Counted Vote = record { digest = v.digest; kept = v } in
     let now = prepare_counted l v in
     let h = are.heard in
-    let heard_now : AreHeard now l.waiting l.kept full = record {
+    let heard_now : AreHeard now l.waiting l.kept l.checkpoints.votes full = record {
       proposals = λ s p q. h.proposals s p (proposal_after_prepare w i v.slot s c p q);
       prepares = λ s j d q. (elim (prepare_heard w i v.slot s j c d q) [
         | inl old ↦ h.prepares s j d old
@@ -92,6 +95,7 @@ prepare_told_keeps r me l v full is rules are heard for Take.Taken =
       commits = λ s j d q. h.commits s j d (commit_after_prepare w i v.slot s j c d q);
       requests = h.requests;
       messages = h.messages;
+      checkpoints = h.checkpoints;
     } in
     let at = local_later r me l now full (later_by_prepare w i v.slot c are.is.opened.window) (prepare_state r me l v are.is for) heard_now are in
     record {
@@ -121,7 +125,7 @@ commit_told_keeps r me l v full is rules are heard for Take.Taken =
     let c : Counted Vote = record { digest = v.digest; kept = v } in
     let now = commit_counted l v in
     let h = are.heard in
-    let heard_now : AreHeard now l.waiting l.kept full = record {
+    let heard_now : AreHeard now l.waiting l.kept l.checkpoints.votes full = record {
       proposals = λ s p q. h.proposals s p (proposal_after_commit w i v.slot s c p q);
       prepares = λ s j d q. h.prepares s j d (prepare_after_commit w i v.slot s j c d q);
       commits = λ s j d q. (elim (commit_heard w i v.slot s j c d q) [
@@ -130,6 +134,7 @@ commit_told_keeps r me l v full is rules are heard for Take.Taken =
       ]);
       requests = h.requests;
       messages = h.messages;
+      checkpoints = h.checkpoints;
     } in
     let at = local_later r me l now full (later_by_commit w i v.slot c are.is.opened.window) (commit_state r me l v are.is for) heard_now are in
     record {
@@ -203,7 +208,7 @@ proposal_told_keeps r me l p full is rules are heard for Take.Taken answer =
     let x = Message.Prepare (vote_of me l.view p.slot d) in
     let h = are.heard in
     let known : IsBatchKnown full p.batch = inr (record { message = Message.PrePrepare p; heard = heard; inside = inl refl }) in
-    let heard_now : AreHeard now l.waiting l.kept full = record {
+    let heard_now : AreHeard now l.waiting l.kept l.checkpoints.votes full = record {
       proposals = λ s q y. (elim (proposal_heard w p.slot s g q y) [
         | inl old ↦ h.proposals s q old
         | inr it ↦ subst (λ z. IsBatchKnown full z.batch) (sym it.1) known
@@ -212,6 +217,7 @@ proposal_told_keeps r me l p full is rules are heard for Take.Taken answer =
       commits = λ s i c y. h.commits s i c (commit_after_proposal w p.slot s i g c y);
       requests = h.requests;
       messages = h.messages;
+      checkpoints = h.checkpoints;
     } in
     let at = local_later r me l now full (later_by_proposal w p.slot g are.is.opened.window) (proposal_state r me l p fine are.is for) heard_now are in
     let holds : IsSome (proposal_at now p.slot) = proposal_held w p.slot g free.at free.at_is free.none in
@@ -247,11 +253,43 @@ hear_request_keeps r me l x full rules are heard =
       | inr k ↦ are.heard.requests y k
     ]) in
     let is = request_state r me l x (are.shaped (Message.Request x) heard) are.is in
-    let local = local_beside r me l l.next l.proposed now l.last l.executed l.kept full (omega arith) (omega arith) is.waiting requests are.heard.messages are in
+    let local = local_beside r me l l.next l.proposed now l.last l.executed l.kept l.due full (omega arith) (omega arith) (λ d h. inl h) is requests are.heard.messages are in
     record {
       told = told_nothing r me (record l { waiting = now }) full rules local;
       still = record { wanted_is = refl; executed_is = refl; last_is = refl };
     }
+
+-- ---- a Checkpoint
+
+counting_heard : (full : List Entry) (how : Take) (votes : List StableVote) (v : StableVote) → In (Heard (Message.Checkpoint v)) full
+    → ((x : StableVote) → In x votes → In (Heard (Message.Checkpoint x)) full)
+    → (x : StableVote) → In x (votes_by how votes v) → In (Heard (Message.Checkpoint x)) full
+counting_heard full Take.Taken votes v heard old x h =
+    elim (in_append_cases x votes (v ∷ []) h) [
+      | inl k ↦ old x k
+      | inr (inl e) ↦ subst (λ y. In (Heard (Message.Checkpoint y)) full) e heard
+      | inr (inr none) ↦ absurd none
+    ]
+counting_heard full how votes v heard old x h = old x h
+
+hear_checkpoint_keeps : (r : Roster) (me : ReplicaId) (l : Local) (v : StableVote) (full : List Entry) → IsMember r me → KeepsRules r me full
+    → AreLocal r me l full → In (Heard (Message.Checkpoint v)) full → IsToldOf r me l (hear_checkpoint me l v) full
+hear_checkpoint_keeps r me l v full member rules are heard = go (nat_eq v.signer.cluster me.cluster) refl
+  where
+    now : Checkpoints
+    now = after_vote l.checkpoints v
+
+    go : (b : Bool) → nat_eq v.signer.cluster me.cluster ≡ b
+        → IsToldOf r me l (cond (not b) (unmoved l (Answer.Heard Take.Stray))
+        (record { answer = Answer.Heard (vote_answer l.checkpoints v); local = record l { checkpoints = now }; outs = [] })) full
+    go false e = unmoved_told r me l (Answer.Heard Take.Stray) full rules are
+    go true e =
+        let is = checkpoint_counted_state r me l v (are.shaped (Message.Checkpoint v) heard) (same v.signer.cluster me.cluster e) are.is in
+        let votes = counting_heard full (vote_answer l.checkpoints v) l.checkpoints.votes v heard are.heard.checkpoints in
+        record {
+          told = told_nothing r me (record l { checkpoints = now }) full rules (local_counting r me l now full is votes are);
+          still = record { wanted_is = refl; executed_is = refl; last_is = refl };
+        }
 
 -- ---- any message
 
@@ -261,4 +299,5 @@ hear_keeps r me l (Message.Request x) full is rules are heard = hear_request_kee
 hear_keeps r me l (Message.PrePrepare p) full is rules are heard = hear_proposal_keeps r me l p full is rules are heard
 hear_keeps r me l (Message.Prepare v) full is rules are heard = hear_prepare_keeps r me l v full is rules are heard
 hear_keeps r me l (Message.Commit v) full is rules are heard = hear_commit_keeps r me l v full is rules are heard
+hear_keeps r me l (Message.Checkpoint v) full is rules are heard = hear_checkpoint_keeps r me l v full is rules are heard
 hear_keeps r me l m full is rules are heard = unmoved_told r me l (Answer.Heard Take.Stray) full rules are

@@ -1,20 +1,25 @@
 -- What is noted stays noted.
-use Rattle.std.proofs.Common.{◌≡◌, ◌≢◌, ℕ, ◌<◌, ◌≤◌, List, length, set, Option, Some, None, is_some, Result, Ok, Err, ◌⊎◌, inl, inr, refl, sym, ap, subst, ◌∙◌, arith}
+use Rattle.std.proofs.Common.{◌≡◌, ◌≢◌, ℕ, ◌+◌, ◌<◌, ◌≤◌, max, List, length, set, Option, Some, None, is_some, Result, Ok, Err, ◌⊎◌, inl, inr, refl, sym, ap, subst, ◌∙◌, arith}
 use Rattle.std.specs.List.{slice_get}
 use Rattle.std.specs.Option.{IsSome}
-use Rattle.std.proofs.lemmas.Bool.{cases_eq}
+use Rattle.std.proofs.Math.Nat.{le-max_left}
+use Rattle.std.proofs.lemmas.Bool.{cases_eq, cases_lt}
 use Rattle.fab_base.specs.declared.requests.Request.{Request}
 use Rattle.fab_base.specs.declared.messages.Vote.{Vote}
 use Rattle.fab_base.specs.declared.messages.PreparedCert.{PreparedCert}
 use Rattle.fab_base.specs.declared.messages.Message.{Message}
 use Rattle.fab_base.specs.declared.answers.Take.{Take}
-use Rattle.pbft_slots.specs.Window.{Window, place_in, proposal_at, prepared_at}
+use Rattle.pbft_slots.specs.Window.{Window, place_in, proposal_at, prepared_at, moved_to}
 use Rattle.pbft_slots.proofs.Places.{place_by, is_place}
-use Rattle.fab_machine.specs.State.{Proposed, Local}
+use Rattle.checkpoint_core.specs.Checkpoints.{Checkpoints}
+use Rattle.fab_rules.specs.Lists.{In}
+use Rattle.fab_machine.specs.State.{Proposed, Due, Local}
 use Rattle.fab_machine.specs.Voting.{with_certificate}
+use Rattle.fab_machine.specs.Checkpointing.{after_move}
 use Rattle.fab_machine.specs.Relation.{IsPast, certificate_by, IsCovered, IsNoted}
 use Rattle.fab_machine.proofs.Lists.{get_set_same, get_set_within, get_set_other}
 use Rattle.fab_machine.proofs.Windows.{IsLater}
+use Rattle.fab_machine.proofs.Moving.{IsMoved, certificate_stays}
 
 -- ---- places
 
@@ -30,17 +35,31 @@ places_differ w s t p q e f other same =
 
 -- ---- a change beside the view, its slots and its certificates
 
-pub noted_beside : (l : Local) (next : ℕ) (proposed : List Proposed) (waiting : List Request) (last : List ℕ) (executed : ℕ) (kept : List Message) (m : Message)
-    → l.next ≤ next → l.executed ≤ executed → IsNoted l m
-    → IsNoted (record l { next = next; proposed = proposed; waiting = waiting; last = last; executed = executed; kept = kept }) m
-noted_beside l next proposed waiting last executed kept (Message.PrePrepare p) later more (inl old) = inl old
-noted_beside l next proposed waiting last executed kept (Message.PrePrepare p) later more (inr h) = inr (h.0, omega (arith, h.1, later))
-noted_beside l next proposed waiting last executed kept (Message.Prepare v) later more h = h
-noted_beside l next proposed waiting last executed kept (Message.Commit v) later more h = record { past = h.past; covered = h.covered }
-noted_beside l next proposed waiting last executed kept (Message.Checkpoint x) later more h = record { done = omega (arith, h.done, more); past = h.past }
-noted_beside l next proposed waiting last executed kept (Message.ViewChange c) later more h = h
-noted_beside l next proposed waiting last executed kept (Message.ReplyNote n) later more h = omega (arith, h, more)
-noted_beside l next proposed waiting last executed kept m later more h = tt
+pub noted_beside : (l : Local) (next : ℕ) (proposed : List Proposed) (waiting : List Request) (last : List ℕ) (executed : ℕ) (kept : List Message) (due : List Due)
+    (m : Message) → l.next ≤ next → l.executed ≤ executed → ((d : Due) → In d due → In d l.due ⊎ (l.executed < d.round)) → IsNoted l m
+    → IsNoted (record l { next = next; proposed = proposed; waiting = waiting; last = last; executed = executed; kept = kept; due = due }) m
+noted_beside l next proposed waiting last executed kept due (Message.PrePrepare p) later more dues (inl old) = inl old
+noted_beside l next proposed waiting last executed kept due (Message.PrePrepare p) later more dues (inr h) = inr (h.0, omega (arith, h.1, later))
+noted_beside l next proposed waiting last executed kept due (Message.Prepare v) later more dues h = h
+noted_beside l next proposed waiting last executed kept due (Message.Commit v) later more dues h = record { past = h.past; covered = h.covered }
+noted_beside l next proposed waiting last executed kept due (Message.Checkpoint x) later more dues h = record {
+  done = omega (arith, h.done, more);
+  past = λ d q. (elim (dues d q) [ inl old ↦ h.past d old | inr new ↦ omega (arith, h.done, new) ]);
+}
+noted_beside l next proposed waiting last executed kept due (Message.ViewChange c) later more dues h = h
+noted_beside l next proposed waiting last executed kept due (Message.ReplyNote n) later more dues h = omega (arith, h, more)
+noted_beside l next proposed waiting last executed kept due m later more dues h = tt
+
+-- ---- a Checkpoint more counts
+
+pub noted_counting : (l : Local) (c : Checkpoints) (m : Message) → IsNoted l m → IsNoted (record l { checkpoints = c }) m
+noted_counting l c (Message.PrePrepare p) h = h
+noted_counting l c (Message.Prepare v) h = h
+noted_counting l c (Message.Commit v) h = record { past = h.past; covered = h.covered }
+noted_counting l c (Message.Checkpoint x) h = record { done = h.done; past = h.past }
+noted_counting l c (Message.ViewChange v) h = h
+noted_counting l c (Message.ReplyNote n) h = h
+noted_counting l c m h = tt
 
 -- ---- more was heard
 
@@ -115,3 +134,38 @@ noted_kept l slot k (Message.Checkpoint x) s v h = record { done = h.done; past 
 noted_kept l slot k (Message.ViewChange c) s v h = h
 noted_kept l slot k (Message.ReplyNote n) s v h = h
 noted_kept l slot k m s v h = tt
+
+-- ---- the low mark moves
+
+past_moved : (l : Local) (low view slot : ℕ) (A B : Type 0) → l.slots.low ≤ low → (low < slot → A → B) → IsPast l view slot A
+    → IsPast (after_move l low) view slot B
+past_moved l low view slot A B up f (inl old) = inl old
+past_moved l low view slot A B up f (inr (e, inl left)) = inr (e, inl (omega (arith, left, up)))
+past_moved l low view slot A B up f (inr (e, inr here)) =
+    elim (cases_lt low slot) [ inl above ↦ inr (e, inr (f above here)) | inr left ↦ inr (e, inl left) ]
+
+covered_moved : (l : Local) (low : ℕ) (v : Vote) → l.slots.low ≤ low → length l.prepared ≡ length l.slots.slots → IsCovered l v
+    → IsCovered (after_move l low) v
+covered_moved l low v up places (inl left) = inl (omega (arith, left, up))
+covered_moved l low v up places (inr k) =
+    elim (cases_lt low v.slot) [
+      | inl above ↦ inr (k.0, certificate_stays l.slots low l.prepared v.slot k.0 up places above k.1, k.2, k.3)
+      | inr left ↦ inl left
+    ]
+
+pub noted_moved : (l : Local) (low : ℕ) (m : Message) → l.slots.low ≤ low → length l.prepared ≡ length l.slots.slots
+    → IsMoved l.slots (moved_to l.slots low) → IsNoted l m → IsNoted (after_move l low) m
+noted_moved l low (Message.PrePrepare p) up places moves (inl old) = inl old
+noted_moved l low (Message.PrePrepare p) up places moves (inr h) = inr (h.0, omega (arith, h.1, le-max_left l.next (low + 1)))
+noted_moved l low (Message.Prepare v) up places moves h =
+    past_moved l low v.view v.slot (IsSome (proposal_at l.slots v.slot)) (IsSome (proposal_at (moved_to l.slots low) v.slot)) up
+    (λ above. is_some_by _ _ (λ p e. moves.stays v.slot p above e)) h
+noted_moved l low (Message.Commit v) up places moves h = record {
+  past = past_moved l low v.view v.slot (IsSome (prepared_at l.slots v.slot)) (IsSome (prepared_at (moved_to l.slots low) v.slot)) up
+      (λ above. is_some_by _ _ (λ d e. moves.prepared v.slot d above e)) h.past;
+  covered = covered_moved l low v up places h.covered;
+}
+noted_moved l low (Message.Checkpoint x) up places moves h = record { done = h.done; past = h.past }
+noted_moved l low (Message.ViewChange c) up places moves h = h
+noted_moved l low (Message.ReplyNote n) up places moves h = h
+noted_moved l low m up places moves h = tt

@@ -86,11 +86,14 @@ starts r me is =
           commits = λ slot sender c h. absurd (no_vote n sender c (asked_of (λ t. value_of t.commits sender) n r.window slot c h));
           requests = λ x h. absurd h;
           messages = λ m h. absurd h;
+          checkpoints = λ v h. absurd h;
         };
         reported = none_reported r me 0 (fresh_local r me).slots r.window [];
         quoted = λ m h. absurd h;
         noted = λ m h. absurd h;
         entered = λ h. absurd (omega (arith, h));
+        due = λ d h. absurd h;
+        proven = λ h. absurd (omega (arith, h));
       };
       rounds = record { backed = λ k h. absurd h; blocks_are = refl; whole = omega arith; told = refl; stamps = λ client h. refl };
     }

@@ -21,7 +21,8 @@ use Rattle.fab_machine.specs.State.{Replica, wanted}
 use Rattle.fab_machine.specs.Items.{statements_by, statements_in}
 use Rattle.fab_machine.specs.Voting.{Told}
 use Rattle.fab_machine.specs.Rounds.{keep_answer, kept_after}
-use Rattle.fab_machine.specs.Step.{after_out, after_outs, after_told, hear, emit_step}
+use Rattle.fab_machine.specs.Hearing.{hear}
+use Rattle.fab_machine.specs.Step.{after_out, after_outs, after_told, emit_step}
 use Rattle.fab_machine.specs.Diaries.{diary_sent}
 use Rattle.fab_machine.specs.Relation.{IsBacked, AreRounds, full_of, IsOfView, Wait, AreFacts, AreRelated, after_puts, IsTold}
 use Rattle.fab_machine.specs.declared.outs.Out.{Out}
@@ -108,7 +109,7 @@ outs_keep r me s diary (Out.Certified k ∷ rest) waits told rounds =
       stamps = rounds.stamps;
     })
 
-puts_hear : (me : ReplicaId) (full : List Entry) (outs : List Out) → HearsAll full (after_puts me full outs)
+pub puts_hear : (me : ReplicaId) (full : List Entry) (outs : List Out) → HearsAll full (after_puts me full outs)
 puts_hear me full [] = λ m h. h
 puts_hear me full (Out.Put item ∷ rest) =
     λ m h. puts_hear me (after_saying full (statements_by me item.message)) rest m (still_heard full (statements_by me item.message) m h)

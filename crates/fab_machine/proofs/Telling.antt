@@ -123,7 +123,7 @@ told_counted r me l now slot full is calm low_enough low_is before rules are = g
         let may = commit_may r me at full slot d is are calm new.now_is low_enough fresh in
         let noted = commit_noted r me at full slot d are new.now_is in
         let more = Said m ∷ full in
-        let heard = heard_more now l.waiting l.kept full more (hears_later (Said m) full) are.heard in
+        let heard = heard_more now l.waiting l.kept l.checkpoints.votes full more (hears_later (Said m) full) are.heard in
         let told = told_certified r me at (keep_prepared at slot (Some d)) more slot (newly_committed l now slot) (may, rules) noted
         (λ c h. certificate_backed r me at more slot c is are.is heard (is_newly (committed_at l.slots slot) (committed_at now slot) c h).now_is) in
         told_put r me (keep_prepared at slot (Some d)) m (certified_outs me at slot (newly_committed l now slot)) full (own me) (calm_view l calm) told
