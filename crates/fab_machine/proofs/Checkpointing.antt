@@ -27,6 +27,7 @@ use Rattle.fab_machine.specs.Items.{statements_by}
 use Rattle.fab_machine.specs.Voting.{Told, unmoved}
 use Rattle.fab_machine.specs.Hearing.{hear}
 use Rattle.fab_machine.specs.Checkpointing.{checkpoint_of, voted, stable_rounds, votes_or_none, after_move, heard_again, moved, next_due, move_to, checkpoint_by, checkpoint}
+use Rattle.fab_machine.specs.LocalState.{AreAbove}
 use Rattle.fab_machine.specs.Relation.{IsProof, IsOfView, IsNotedCheckpoint, AreReported, AreLocal, IsBacked, after_puts, IsTold}
 use Rattle.fab_machine.specs.declared.outs.Out.{Out}
 use Rattle.fab_machine.proofs.Members.{IsMember}
@@ -69,6 +70,7 @@ checkpoint_may r me l d rest full member first are =
 
 -- each of those behind is above
 above_each : (low : ℕ) (dues : List Due) → AreAbove low dues → (d : Due) → In d dues → low < d.round
+above_each low [] above d none = absurd none
 above_each low (x ∷ rest) above d (inl e) = subst (λ y. low < y.round) e above.0
 above_each low (x ∷ rest) above d (inr h) = omega (arith, above.0, above_each x.round rest above.1 d h)
 
@@ -133,6 +135,13 @@ moved_local r me l low digest full up done none is are =
     }
 
 -- ---- messages are considered again
+
+-- what is told is still the answer
+pub again_answer : (r : Roster) (me : ReplicaId) (t : Told) (messages : List Message) → (heard_again r me t messages).answer ≡ t.answer
+again_answer r me t [] = refl
+again_answer r me t (m ∷ rest) =
+    let now = hear r me t.local m in
+    again_answer r me (record { answer = t.answer; local = now.local; outs = t.outs ++ now.outs }) rest
 
 after_puts-append : (me : ReplicaId) (full : List Entry) (a b : List Out) → after_puts me full (a ++ b) ≡ after_puts me (after_puts me full a) b
 after_puts-append me full [] b = refl

@@ -1,5 +1,5 @@
 -- Hearing a proposal, a vote or a request keeps the relation, whatever it is answered.
-use Rattle.std.proofs.Common.{◌≡◌, ℕ, ◌<◌, ◌≤◌, Bool, true, false, not, cond, nat_eq, List, [], ◌∷◌, ◌++◌, length, Option, Some, None, is_some, inl, inr, refl, sym, ap, subst, ◌∙◌, arith}
+use Rattle.std.proofs.Common.{◌≡◌, ℕ, ◌<◌, ◌≤◌, Bool, true, false, not, cond, nat_eq, eqb-true, List, [], ◌∷◌, ◌++◌, length, Option, Some, None, is_some, inl, inr, refl, sym, ap, subst, ◌∙◌, arith}
 use Rattle.std.specs.Option.{IsSome, option_map, option_and_then}
 use Rattle.std.proofs.lemmas.Bool.{cases_lt}
 use Rattle.fab_base.specs.Limits.{Roster}
@@ -284,7 +284,7 @@ hear_checkpoint_keeps r me l v full member rules are heard = go (nat_eq v.signer
         (record { answer = Answer.Heard (vote_answer l.checkpoints v); local = record l { checkpoints = now }; outs = [] })) full
     go false e = unmoved_told r me l (Answer.Heard Take.Stray) full rules are
     go true e =
-        let is = checkpoint_counted_state r me l v (are.shaped (Message.Checkpoint v) heard) (same v.signer.cluster me.cluster e) are.is in
+        let is = checkpoint_counted_state r me l v (are.shaped (Message.Checkpoint v) heard) (eqb-true v.signer.cluster me.cluster e) are.is in
         let votes = counting_heard full (vote_answer l.checkpoints v) l.checkpoints.votes v heard are.heard.checkpoints in
         record {
           told = told_nothing r me (record l { checkpoints = now }) full rules (local_counting r me l now full is votes are);

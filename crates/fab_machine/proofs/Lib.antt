@@ -22,6 +22,7 @@ pub mod Telling
 pub mod Hearing
 pub mod Proposing
 pub mod Stepping
+pub mod Checkpointing
 pub mod Keeping
 pub mod Blocks
 pub mod Stamps
