@@ -2,7 +2,7 @@
 use Rattle.std.proofs.Common.{◌≡◌, ℕ, zero, suc, ◌+◌, ◌-◌, ◌*◌, ◌<◌, ◌≤◌, List, [], ◌∷◌, ◌++◌, length, map, Option, Some, None, inl, inr, refl, sym, ap, subst, ◌∙◌, arith}
 use Rattle.std.specs.List.{filter, range_with_len}
 use Rattle.std.specs.Bool.{IsTrue}
-use Rattle.std.specs.Option.{is_some}
+use Rattle.std.specs.Option.{IsSome}
 use Rattle.fab_base.specs.declared.limits.TheConstants.{GREATEST_NUMBER}
 use Rattle.fab_base.specs.Limits.{Roster}
 use Rattle.fab_base.specs.Quorums.{quorum_size}
@@ -27,7 +27,7 @@ use Rattle.fab_machine.specs.Items.{statements_by}
 use Rattle.fab_machine.specs.Voting.{Told, unmoved}
 use Rattle.fab_machine.specs.Hearing.{hear}
 use Rattle.fab_machine.specs.Checkpointing.{checkpoint_of, voted, stable_rounds, votes_or_none, after_move, heard_again, moved, next_due, move_to, checkpoint_by, checkpoint}
-use Rattle.fab_machine.specs.LocalState.{AreAbove}
+use Rattle.fab_machine.specs.LocalState.{AreAbove, AreMarked}
 use Rattle.fab_machine.specs.Relation.{IsProof, IsOfView, IsNotedCheckpoint, AreReported, AreLocal, IsBacked, after_puts, IsTold}
 use Rattle.fab_machine.specs.declared.outs.Out.{Out}
 use Rattle.fab_machine.proofs.Members.{IsMember}
@@ -35,7 +35,8 @@ use Rattle.fab_machine.proofs.Moving.{moved_window, certificate_before}
 use Rattle.fab_machine.proofs.Noting.{is_some_by, noted_moved}
 use Rattle.fab_machine.proofs.MoreHeard.{backed_more}
 use Rattle.fab_machine.proofs.Shaping.{shaped_checkpoint}
-use Rattle.fab_machine.proofs.States.{IsStill}
+use Rattle.fab_machine.proofs.Marking.{marked_put, IsMoveTo, is_move_to}
+use Rattle.fab_machine.proofs.States.{IsStill, state_marked}
 use Rattle.fab_machine.proofs.Locals.{local_beside, local_said, checkpoint_quotes}
 use Rattle.fab_machine.proofs.Telling.{IsToldOf, told_nothing, unmoved_told, own, told_put}
 use Rattle.fab_machine.proofs.Hearing.{hear_keeps}
@@ -83,8 +84,9 @@ voted_keeps r me l d rest full member rules first are =
     let here : In d l.due = subst (In d) (sym first) (inl refl) in
     let above = subst (AreAbove l.slots.low) first are.is.marked.rise in
     let may = checkpoint_may r me l d rest full member first are in
+    let marked = marked_put r me l.slots.low l.executed l.checkpoints d rest (subst (AreMarked r me l.slots.low l.executed l.checkpoints) first are.is.marked) in
     let at = local_beside r me l l.next l.proposed l.waiting l.last l.executed l.kept rest full (omega arith) (omega arith)
-    (λ k h. inl (subst (In k) (sym first) (inr h))) (voted_state r me l d rest first are.is) are.heard.requests are.heard.messages are in
+    (λ k h. inl (subst (In k) (sym first) (inr h))) (state_marked r me l l.checkpoints rest marked are.is) are.heard.requests are.heard.messages are in
     let noted : IsNotedCheckpoint now x = record { done = are.is.marked.upto d here; past = λ k h. above_each d.round rest above.1 k h } in
     let said = local_said r me now m full (checkpoint_quotes full x) noted at in
     record {
@@ -200,11 +202,15 @@ pub checkpoint_keeps : (r : Roster) (me : ReplicaId) (l : Local) (full : List En
     → IsToldOf r me l (checkpoint r me l) full
 checkpoint_keeps r me l full member rules are = by l.due refl
   where
+    with_digest : (low : ℕ) → IsMoveTo l low → (o : Option Hash32) → stable l.checkpoints low ≡ o → IsSome o → l.due ≡ [] → IsToldOf r me l (moved r me l low) full
+    with_digest low to None e some none = cc
+    with_digest low to (Some digest) e some none = moved_keeps r me l low digest full member rules (omega (arith, to.above)) to.done none e are
+
     move : (n : ℕ) → greatest (stable_rounds l) ≡ n → l.due ≡ [] → IsToldOf r me l (move_to r me l n) full
     move zero e none = unmoved_told r me l (Answer.NotDue (next_due r.interval l.executed)) full rules are
     move (suc n) e none =
-        let s = stable_round l (suc n) e (omega arith) in
-        moved_keeps r me l (suc n) s.digest full member rules (omega (arith, s.above)) s.done none s.is are
+        let to = is_move_to l n e in
+        with_digest (suc n) to (stable l.checkpoints (suc n)) refl to.stable none
 
     by : (dues : List Due) → l.due ≡ dues → IsToldOf r me l (checkpoint_by r me l dues) full
     by [] e = move (greatest (stable_rounds l)) refl e

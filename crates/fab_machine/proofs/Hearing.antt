@@ -24,7 +24,7 @@ use Rattle.pbft_slots.specs.Ballots.{Counted}
 use Rattle.pbft_slots.specs.Slots.{proposal_answer, first_proposal, with_proposal}
 use Rattle.pbft_slots.specs.Window.{Window, high, slot_at, proposal_at, prepared_at, pre_prepare_answer, prepare_answer, commit_answer, answer_by, after_pre_prepare}
 use Rattle.pbft_slots.proofs.Places.{slot_here, slot_is_open, place_far, place_open}
-use Rattle.checkpoint_core.specs.Checkpoints.{Checkpoints, vote_answer, votes_by, after_vote}
+use Rattle.checkpoint_core.specs.Checkpoints.{Checkpoints, vote_answer, after_vote}
 use Rattle.fab_machine.specs.State.{Local, wanted}
 use Rattle.fab_machine.specs.Items.{vote_of}
 use Rattle.fab_machine.specs.Voting.{unmoved, vote_refusal, kept_by, refused, after_count, outs_after, prepare_told, commit_told, proposal_told, prepare_by, commit_by, proposal_by, hear_prepare, hear_commit, hear_proposal}
@@ -32,10 +32,11 @@ use Rattle.fab_machine.specs.Requests.{request_answer, waiting_by, hear_request}
 use Rattle.fab_machine.specs.Hearing.{hear_checkpoint, hear}
 use Rattle.fab_machine.specs.Relation.{IsBatchKnown, AreHeard, IsPast, AreLocal}
 use Rattle.fab_machine.proofs.Members.{IsMember}
-use Rattle.fab_machine.proofs.Shaped.{prepare_slot, commit_slot, proposal_slot}
+use Rattle.fab_machine.proofs.Shaped.{prepare_slot, commit_slot, checkpoint_member, proposal_slot}
 use Rattle.fab_machine.proofs.Windows.{later_by_proposal, later_by_prepare, later_by_commit, prepare_heard, commit_heard, proposal_heard, proposal_after_prepare, proposal_after_commit, commit_after_prepare, prepare_after_commit, prepare_after_proposal, commit_after_proposal}
 use Rattle.fab_machine.proofs.Waiting.{in_answered}
-use Rattle.fab_machine.proofs.States.{counted_still, IsForView, for_view, prepare_counted, commit_counted, proposal_counted, prepare_state, commit_state, proposal_state, refused_state, request_state, checkpoint_counted_state}
+use Rattle.fab_machine.proofs.States.{counted_still, IsForView, for_view, prepare_counted, commit_counted, proposal_counted, prepare_state, commit_state, proposal_state, state_marked, refused_state, request_state}
+use Rattle.fab_machine.proofs.Marking.{in_voted, marked_vote}
 use Rattle.fab_machine.proofs.Locals.{local_beside, local_counting, local_later}
 use Rattle.fab_machine.proofs.Putting.{prepare_may, prepare_noted}
 use Rattle.fab_machine.proofs.Telling.{IsToldOf, told_nothing, unmoved_told, own, calm_view, told_put, told_counted}
@@ -261,20 +262,9 @@ hear_request_keeps r me l x full rules are heard =
 
 -- ---- a Checkpoint
 
-counting_heard : (full : List Entry) (how : Take) (votes : List StableVote) (v : StableVote) → In (Heard (Message.Checkpoint v)) full
-    → ((x : StableVote) → In x votes → In (Heard (Message.Checkpoint x)) full)
-    → (x : StableVote) → In x (votes_by how votes v) → In (Heard (Message.Checkpoint x)) full
-counting_heard full Take.Taken votes v heard old x h =
-    elim (in_append_cases x votes (v ∷ []) h) [
-      | inl k ↦ old x k
-      | inr (inl e) ↦ subst (λ y. In (Heard (Message.Checkpoint y)) full) e heard
-      | inr (inr none) ↦ absurd none
-    ]
-counting_heard full how votes v heard old x h = old x h
-
-hear_checkpoint_keeps : (r : Roster) (me : ReplicaId) (l : Local) (v : StableVote) (full : List Entry) → IsMember r me → KeepsRules r me full
+hear_checkpoint_keeps : (r : Roster) (me : ReplicaId) (l : Local) (v : StableVote) (full : List Entry) → KeepsRules r me full
     → AreLocal r me l full → In (Heard (Message.Checkpoint v)) full → IsToldOf r me l (hear_checkpoint me l v) full
-hear_checkpoint_keeps r me l v full member rules are heard = go (nat_eq v.signer.cluster me.cluster) refl
+hear_checkpoint_keeps r me l v full rules are heard = go (nat_eq v.signer.cluster me.cluster) refl
   where
     now : Checkpoints
     now = after_vote l.checkpoints v
@@ -284,8 +274,13 @@ hear_checkpoint_keeps r me l v full member rules are heard = go (nat_eq v.signer
         (record { answer = Answer.Heard (vote_answer l.checkpoints v); local = record l { checkpoints = now }; outs = [] })) full
     go false e = unmoved_told r me l (Answer.Heard Take.Stray) full rules are
     go true e =
-        let is = checkpoint_counted_state r me l v (are.shaped (Message.Checkpoint v) heard) (eqb-true v.signer.cluster me.cluster e) are.is in
-        let votes = counting_heard full (vote_answer l.checkpoints v) l.checkpoints.votes v heard are.heard.checkpoints in
+        let own = eqb-true v.signer.cluster me.cluster e in
+        let member = checkpoint_member r me v (are.shaped (Message.Checkpoint v) heard) own in
+        let is = state_marked r me l now l.due (marked_vote r me l.slots.low l.executed l.checkpoints l.due v own member are.is.marked) are.is in
+        let votes = λ (x : StableVote) (h : In x now.votes). (elim (in_voted (vote_answer l.checkpoints v) l.checkpoints.votes v x h) as (λ _. In (Heard (Message.Checkpoint x)) full) [
+          | inl k ↦ are.heard.checkpoints x k
+          | inr e ↦ subst (λ y. In (Heard (Message.Checkpoint y)) full) e heard
+        ]) in
         record {
           told = told_nothing r me (record l { checkpoints = now }) full rules (local_counting r me l now full is votes are);
           still = record { wanted_is = refl; executed_is = refl; last_is = refl };
@@ -299,5 +294,5 @@ hear_keeps r me l (Message.Request x) full is rules are heard = hear_request_kee
 hear_keeps r me l (Message.PrePrepare p) full is rules are heard = hear_proposal_keeps r me l p full is rules are heard
 hear_keeps r me l (Message.Prepare v) full is rules are heard = hear_prepare_keeps r me l v full is rules are heard
 hear_keeps r me l (Message.Commit v) full is rules are heard = hear_commit_keeps r me l v full is rules are heard
-hear_keeps r me l (Message.Checkpoint v) full is rules are heard = hear_checkpoint_keeps r me l v full is rules are heard
+hear_keeps r me l (Message.Checkpoint v) full is rules are heard = hear_checkpoint_keeps r me l v full rules are heard
 hear_keeps r me l m full is rules are heard = unmoved_told r me l (Answer.Heard Take.Stray) full rules are

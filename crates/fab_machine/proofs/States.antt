@@ -259,7 +259,7 @@ in_kept (Take.Ahead view) kept m x h = elim (in_append_cases x kept (m ∷ []) h
 in_kept (Take.Far high) kept m x h = elim (in_append_cases x kept (m ∷ []) h) [ inl old ↦ inl old | inr (inl e) ↦ inr e | inr (inr none) ↦ absurd none ]
 in_kept how kept m x h = inl h
 
-refused_state : (r : Roster) (me : ReplicaId) (l : Local) (m : Message) (how : Take) → IsShaped r m → IsLocalState r me l
+pub refused_state : (r : Roster) (me : ReplicaId) (l : Local) (m : Message) (how : Take) → IsShaped r m → IsLocalState r me l
     → IsToldState r me l (refused l m how)
 refused_state r me l m how fine is = record {
   is = state_beside r me l l.next l.proposed l.waiting l.last l.executed (kept_by how l.kept m) (omega arith) (omega arith) is.executed_fits is.waiting
@@ -380,7 +380,7 @@ module _ (P : Told → Type 0) (r : Roster) (me : ReplicaId) (l : Local) (nudged
       by (Some asked) = still (Answer.Changing asked)
       by None = open_for (is_primary r me.cluster l.view me.index) (nat_lt (high l.slots) l.next || nat_lt GREATEST_NUMBER l.next) (is_due r l nudged known) refl
 
-proposed_state : (r : Roster) (me : ReplicaId) (l : Local) (batch : List Request) → IsLocalState r me l → IsLocalState r me (proposed r me l batch).local
+pub proposed_state : (r : Roster) (me : ReplicaId) (l : Local) (batch : List Request) → IsLocalState r me l → IsLocalState r me (proposed r me l batch).local
 proposed_state r me l batch is =
     let ps = l.proposed ++ record { slot = l.next; batch = batch } ∷ [] in
     state_beside r me l (l.next + 1) ps l.waiting l.last l.executed l.kept (omega arith) (omega arith) is.executed_fits is.waiting is.kept is

@@ -1,0 +1,4 @@
+//! Checkpoints.
+#![tactic(auto)]
+
+pub use fab_base::NoMemory;
