@@ -19,6 +19,7 @@ tick_rises c Entry.Proposed = omega arith
 tick_rises c Entry.Nudged = omega arith
 tick_rises c (Entry.Sent item) = omega arith
 tick_rises c Entry.Executed = omega arith
+tick_rises c Entry.Marked = omega arith
 
 clock_more : (m : Maker) (journal : List Entry) (e : Entry) → clock m (journal ++ e ∷ []) ≡ tick (clock m journal) e
 clock_more m journal e = ap (λ (w : Walk). w.clock) (walk_more m journal e)
@@ -56,6 +57,7 @@ added_times m w (Entry.Heard origin x) q h = absurd h
 added_times m w Entry.Proposed q h = absurd h
 added_times m w Entry.Nudged q h = absurd h
 added_times m w Entry.Executed q h = absurd h
+added_times m w Entry.Marked q h = absurd h
 
 pub parcel_times : (m : Maker) (journal : List Entry) (e : Entry) (q : Parcel) → In q (parcels_of m (journal ++ e ∷ []))
     → In q (parcels_of m journal) ⊎ (q.time ≡ clock m journal)

@@ -203,6 +203,7 @@ heard_none p m journal Mover.Batch = refl
 heard_none p m journal Mover.Nudge = refl
 heard_none p m journal Mover.Emit = refl
 heard_none p m journal Mover.Execute = refl
+heard_none p m journal Mover.Checkpoint = refl
 
 none_either : (b : Bool) (k : ℕ) → k ≡ 0 → cond b k 0 ≡ 0
 none_either true k h = h

@@ -277,7 +277,13 @@ settled_of r run a w e =
           omega arith);
       sent = each_of IsSent (trace_in run) r.makers (λ m i. sent_or_blocked m (journal_in run m) (st.0 m i).2);
       idle = each_of IsIdle (trace_in run) r.makers
-          (λ m i. elim [ Mover.Batch ↦ (st.0 m i).1 | Mover.Nudge ↦ st.1 m i | Mover.Emit ↦ (st.0 m i).2 | Mover.Execute ↦ (st.0 m i).3 ]);
+          (λ m i. elim [
+            | Mover.Batch ↦ (st.0 m i).1
+            | Mover.Nudge ↦ st.1 m i
+            | Mover.Emit ↦ (st.0 m i).2
+            | Mover.Execute ↦ (st.0 m i).3
+            | Mover.Checkpoint ↦ (st.0 m i).4
+          ]);
     }
 
 entries_told : (r : Rules) (run : Run) → IsWell r run → HasEnded run true → r.turns ≤ entries_of (transcript r run)

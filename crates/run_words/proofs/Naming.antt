@@ -89,6 +89,7 @@ added_named m w (Entry.Heard origin x) q h = absurd h
 added_named m w Entry.Proposed q h = absurd h
 added_named m w Entry.Nudged q h = absurd h
 added_named m w Entry.Executed q h = absurd h
+added_named m w Entry.Marked q h = absurd h
 
 -- ---- copies
 

@@ -20,7 +20,7 @@ use Rattle.fab_rules.specs.Shape.{IsShaped}
 use Rattle.fab_rules.specs.Spelling.{spelling_of, content_of}
 use Rattle.fab_rules.specs.Statements.{signer_of, unsigned, parts_of, statements_of}
 use Rattle.fab_rules.proofs.Fitting.{fields_are}
-use Rattle.fab_rules.proofs.Lengths.{proposal_is_spelled, prepare_is_spelled, commit_is_spelled, note_is_spelled}
+use Rattle.fab_rules.proofs.Lengths.{proposal_is_spelled, prepare_is_spelled, commit_is_spelled, checkpoint_is_spelled, note_is_spelled}
 use Rattle.fab_rules.proofs.Lists.{in_append_cases, of_map, in_flat_map, in_filter, of_filter}
 use Rattle.fab_rules.proofs.Saying.{same_heard, heard_before, now_said}
 use Rattle.fab_machine.specs.State.{Replica}
@@ -71,6 +71,12 @@ shaped_again r me sig (Message.Commit x) v f h = record {
       (fields_are (unsigned (Message.Commit x)) h.spelled));
   fitting = h.fitting;
 }
+shaped_again r me sig (Message.Checkpoint x) v f h = record {
+  spelled = checkpoint_is_spelled (record x { sig = sig })
+      (keep (id_fits x.signer) _ _ (keep (is_u64 x.round) _ _ (keep (digest_fits x.digest) _ _ (λ z. f)))
+      (fields_are (unsigned (Message.Checkpoint x)) h.spelled));
+  fitting = h.fitting;
+}
 shaped_again r me sig (Message.ReplyNote x) v f h = record {
   spelled = note_is_spelled (record x { sig = sig })
       (keep (id_fits x.signer) _ _ (keep (is_u64 x.round) _ _ (keep (digest_fits x.digest) _ _ (keep (lines_fit x.lines) _ _ (λ z. f))))
@@ -78,7 +84,6 @@ shaped_again r me sig (Message.ReplyNote x) v f h = record {
   fitting = h.fitting;
 }
 shaped_again r me sig (Message.Request x) v f h = absurd v
-shaped_again r me sig (Message.Checkpoint x) v f h = absurd v
 shaped_again r me sig (Message.ViewChange x) v f h = absurd v
 shaped_again r me sig (Message.NewView x) v f h = absurd v
 shaped_again r me sig (Message.Drvc x) v f h = absurd v
@@ -127,10 +132,11 @@ parts_signed m sig (Message.Prepare x) full v k quoting sound p who (inl e) q = 
 parts_signed m sig (Message.Prepare x) full v k quoting sound p who (inr none) q = absurd none
 parts_signed m sig (Message.Commit x) full v k quoting sound p who (inl e) q = own_part m (with_sig sig (Message.Commit x)) p who k e q
 parts_signed m sig (Message.Commit x) full v k quoting sound p who (inr none) q = absurd none
+parts_signed m sig (Message.Checkpoint x) full v k quoting sound p who (inl e) q = own_part m (with_sig sig (Message.Checkpoint x)) p who k e q
+parts_signed m sig (Message.Checkpoint x) full v k quoting sound p who (inr none) q = absurd none
 parts_signed m sig (Message.ReplyNote x) full v k quoting sound p who (inl e) q = own_part m (with_sig sig (Message.ReplyNote x)) p who k e q
 parts_signed m sig (Message.ReplyNote x) full v k quoting sound p who (inr none) q = absurd none
 parts_signed m sig (Message.Request x) full v k quoting sound p who i q = absurd v
-parts_signed m sig (Message.Checkpoint x) full v k quoting sound p who i q = absurd v
 parts_signed m sig (Message.ViewChange x) full v k quoting sound p who i q = absurd v
 parts_signed m sig (Message.NewView x) full v k quoting sound p who i q = absurd v
 parts_signed m sig (Message.Drvc x) full v k quoting sound p who i q = absurd v
@@ -143,9 +149,9 @@ signer_signed : (me : ReplicaId) (sig : List ℕ) (x : Message) → IsVoice me x
 signer_signed me sig (Message.PrePrepare x) v = (ap (λ i. Some (Who.Replica i)) v, refl)
 signer_signed me sig (Message.Prepare x) v = (ap (λ i. Some (Who.Replica i)) v, refl)
 signer_signed me sig (Message.Commit x) v = (ap (λ i. Some (Who.Replica i)) v, refl)
+signer_signed me sig (Message.Checkpoint x) v = (ap (λ i. Some (Who.Replica i)) v, refl)
 signer_signed me sig (Message.ReplyNote x) v = (ap (λ i. Some (Who.Replica i)) v, refl)
 signer_signed me sig (Message.Request x) v = absurd v
-signer_signed me sig (Message.Checkpoint x) v = absurd v
 signer_signed me sig (Message.ViewChange x) v = absurd v
 signer_signed me sig (Message.NewView x) v = absurd v
 signer_signed me sig (Message.Drvc x) v = absurd v
@@ -242,6 +248,7 @@ heard_more m s (Entry.Heard origin y) now past h old x (inr i) = old x i
 heard_more m s Entry.Proposed now past h old x i = old x i
 heard_more m s Entry.Nudged now past h old x i = old x i
 heard_more m s (Entry.Sent item) now past h old x i = old x (sent_heard m.id s.outbox past x i)
+heard_more m s Entry.Marked now past h old x i = old x i
 heard_more m s Entry.Executed now past h old x i = old x (heard_before_blocks past (drop (length s.rounds.blocks) now.rounds.blocks) x i)
 
 may_be : (m : Maker) (e : Entry) → IsHeardSound m e → MayCome m.roster (event_of e)
@@ -250,6 +257,7 @@ may_be m Entry.Proposed h = tt
 may_be m Entry.Nudged h = tt
 may_be m (Entry.Sent item) h = tt
 may_be m Entry.Executed h = tt
+may_be m Entry.Marked h = tt
 
 stays_more : (m : Maker) (s : Replica) (past : List diaries.Entry) (e : Entry) → IsWithinLimits m.roster → IsTrue (is_replica m.roster m.id)
     → IsHeardSound m e
@@ -284,6 +292,7 @@ new_sound m earlier past w (Entry.Heard origin x) keyed st n q i = absurd i
 new_sound m earlier past w Entry.Proposed keyed st n q i = absurd i
 new_sound m earlier past w Entry.Nudged keyed st n q i = absurd i
 new_sound m earlier past w Entry.Executed keyed st n q i = absurd i
+new_sound m earlier past w Entry.Marked keyed st n q i = absurd i
 
 -- ---- the whole
 

@@ -49,6 +49,7 @@ entry_says m s (Entry.Heard origin x) now past = sym (append-nil (said past))
 entry_says m s Entry.Proposed now past = sym (append-nil (said past))
 entry_says m s Entry.Nudged now past = sym (append-nil (said past))
 entry_says m s (Entry.Sent item) now past = own_says past item.message (is_own m.id (signer_of item.message))
+entry_says m s Entry.Marked now past = sym (append-nil (said past))
 entry_says m s Entry.Executed now past = did_says (drop (length s.rounds.blocks) now.rounds.blocks) past ∙ sym (append-nil (said past))
 
 says_from : (m : Maker) (s : Replica) (earlier rest : List Entry) (past : List diaries.Entry) → said past ≡ signed_of m earlier

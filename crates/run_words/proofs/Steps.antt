@@ -51,7 +51,8 @@ unfolding steps_of
 steps_of_made r run m i =
     steps-append r run _ _ (hearings_made r run m [] (waiting_in run m) 0 i refl refl)
     (steps-append r run _ _ (moving_made r run m Mover.Batch i)
-    (steps-append r run _ _ (moving_made r run m Mover.Emit i) (moving_made r run m Mover.Execute i)))
+    (steps-append r run _ _ (moving_made r run m Mover.Emit i)
+    (steps-append r run _ _ (moving_made r run m Mover.Execute i) (moving_made r run m Mover.Checkpoint i))))
 
 steps_from_made : (r : Rules) (run : Run) (makers : List Maker) → ((m : Maker) → IsIn m makers → IsIn m r.makers)
     → AreSteps r run (steps_from run makers)
@@ -82,7 +83,7 @@ none_waiting m (c ∷ rest) k e = absurd (cc)
 abbrev pub IsStill : Run → Maker → Type 0
 IsStill run m =
     (waiting_in run m ≡ []) × (moves m (journal_in run m) Mover.Batch ≡ false) × (moves m (journal_in run m) Mover.Emit ≡ false)
-    × (moves m (journal_in run m) Mover.Execute ≡ false)
+    × (moves m (journal_in run m) Mover.Execute ≡ false) × (moves m (journal_in run m) Mover.Checkpoint ≡ false)
 
 still_one : (run : Run) (m : Maker) → steps_of run m ≡ [] → IsStill run m
 unfolding steps_of
@@ -90,7 +91,13 @@ still_one run m e =
     let a = nil_parts _ _ e in
     let b = nil_parts _ _ a.1 in
     let c = nil_parts _ _ b.1 in
-    (none_waiting m (waiting_in run m) 0 a.0, none_moving run m Mover.Batch b.0, none_moving run m Mover.Emit c.0, none_moving run m Mover.Execute c.1)
+    let d = nil_parts _ _ c.1 in (
+      none_waiting m (waiting_in run m) 0 a.0,
+      none_moving run m Mover.Batch b.0,
+      none_moving run m Mover.Emit c.0,
+      none_moving run m Mover.Execute d.0,
+      none_moving run m Mover.Checkpoint d.1,
+    )
 
 pub still_all : (run : Run) (makers : List Maker) → steps_from run makers ≡ [] → (m : Maker) → IsIn m makers → IsStill run m
 still_all run [] e m i = absurd i

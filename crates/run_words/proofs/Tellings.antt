@@ -30,6 +30,7 @@ tells m journal Act.Emit =
     (told_emit (is_blocked m journal) (added m (walk m journal) (entry_of m journal Mover.Emit)) (length (signed_of m journal))
     (moves m journal Mover.Emit)).0
 tells m journal Act.Execute = refl
+tells m journal Act.Checkpoint = refl
 
 pub puts : (m : Maker) (journal : List Entry) (act : Act)
     → told_parcels (told_of m journal act) ≡ cond (would m journal act) (added m (walk m journal) (made_by m journal act)) []
@@ -41,3 +42,4 @@ puts m journal Act.Emit =
     (told_emit (is_blocked m journal) (added m (walk m journal) (entry_of m journal Mover.Emit)) (length (signed_of m journal))
     (moves m journal Mover.Emit)).1
 puts m journal Act.Execute = none_either [] (moves m journal Mover.Execute)
+puts m journal Act.Checkpoint = none_either [] (moves m journal Mover.Checkpoint)

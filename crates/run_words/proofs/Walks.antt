@@ -32,9 +32,11 @@ entry_next m journal Mover.Batch h = h
 entry_next m journal Mover.Nudge h = h
 entry_next m journal Mover.Emit h = (h, refl)
 entry_next m journal Mover.Execute h = h
+entry_next m journal Mover.Checkpoint h = h
 
 pub entry_sound : (m : Maker) (journal : List Entry) (mover : Mover) → IsHeardSound m (entry_of m journal mover)
 entry_sound m journal Mover.Batch = tt
 entry_sound m journal Mover.Nudge = tt
 entry_sound m journal Mover.Emit = tt
 entry_sound m journal Mover.Execute = tt
+entry_sound m journal Mover.Checkpoint = tt

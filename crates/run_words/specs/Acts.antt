@@ -23,6 +23,7 @@ act_of Mover.Batch = Act.Batch
 act_of Mover.Nudge = Act.Nudge
 act_of Mover.Emit = Act.Emit
 act_of Mover.Execute = Act.Execute
+act_of Mover.Checkpoint = Act.Checkpoint
 
 -- whether an act makes an entry, and which
 abbrev pub would : Maker → List Entry → Act → Bool
@@ -31,6 +32,7 @@ would m journal Act.Batch = moves m journal Mover.Batch
 would m journal Act.Nudge = moves m journal Mover.Nudge
 would m journal Act.Emit = moves m journal Mover.Emit
 would m journal Act.Execute = moves m journal Mover.Execute
+would m journal Act.Checkpoint = moves m journal Mover.Checkpoint
 
 abbrev pub made_by : Maker → List Entry → Act → Entry
 made_by m journal (Act.Hear origin heard) = Entry.Heard origin heard.message
@@ -38,6 +40,7 @@ made_by m journal Act.Batch = entry_of m journal Mover.Batch
 made_by m journal Act.Nudge = entry_of m journal Mover.Nudge
 made_by m journal Act.Emit = entry_of m journal Mover.Emit
 made_by m journal Act.Execute = entry_of m journal Mover.Execute
+made_by m journal Act.Checkpoint = entry_of m journal Mover.Checkpoint
 
 -- ---- what is told
 
@@ -57,6 +60,7 @@ told_of m journal Act.Batch = Told.Core (answer_to m journal Event.Batch)
 told_of m journal Act.Nudge = Told.Core (answer_to m journal Event.Nudge)
 told_of m journal Act.Emit = told_of_emit m journal
 told_of m journal Act.Execute = Told.Core (answer_to m journal Event.Execute)
+told_of m journal Act.Checkpoint = Told.Core (answer_to m journal Event.Checkpoint)
 
 -- whether what is told is of an entry, and which parcels it has
 abbrev pub told_entry : Told → Bool

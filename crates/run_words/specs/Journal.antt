@@ -46,6 +46,7 @@ event_of Entry.Proposed = Event.Batch
 event_of Entry.Nudged = Event.Nudge
 event_of (Entry.Sent item) = Event.Emit (signature_of item.message)
 event_of Entry.Executed = Event.Execute
+event_of Entry.Marked = Event.Checkpoint
 
 unfoldable pub state : Maker → List Entry → Replica
 state m journal = state_of m.roster m.id (map event_of journal)
@@ -147,6 +148,7 @@ moves m journal Mover.Batch = machine.moves m.roster m.id (state m journal) Even
 moves m journal Mover.Nudge = machine.moves m.roster m.id (state m journal) Event.Nudge
 moves m journal Mover.Emit = machine.moves m.roster m.id (state m journal) (Event.Emit []) && not (is_blocked m journal)
 moves m journal Mover.Execute = machine.moves m.roster m.id (state m journal) Event.Execute
+moves m journal Mover.Checkpoint = machine.moves m.roster m.id (state m journal) Event.Checkpoint
 
 -- nothing, for nobody
 abbrev pub no_item : Item
@@ -167,6 +169,7 @@ entry_of m journal Mover.Batch = Entry.Proposed
 entry_of m journal Mover.Nudge = Entry.Nudged
 entry_of m journal Mover.Emit = Entry.Sent (next_item m journal)
 entry_of m journal Mover.Execute = Entry.Executed
+entry_of m journal Mover.Checkpoint = Entry.Marked
 
 -- the next entry is one that the machine makes after these. Hearing always makes one
 abbrev pub IsNext : Maker → List Entry → Entry → Type 0
@@ -175,6 +178,7 @@ IsNext m journal Entry.Proposed = moves m journal Mover.Batch ≡ true
 IsNext m journal Entry.Nudged = moves m journal Mover.Nudge ≡ true
 IsNext m journal (Entry.Sent sent) = (moves m journal Mover.Emit ≡ true) × (sent ≡ next_item m journal)
 IsNext m journal Entry.Executed = moves m journal Mover.Execute ≡ true
+IsNext m journal Entry.Marked = moves m journal Mover.Checkpoint ≡ true
 
 abbrev pub IsMadeFrom : Maker → List Entry → List Entry → Type 0
 IsMadeFrom m earlier [] = Unit {0}

@@ -108,7 +108,8 @@ moving run m mover = cond (moves m (journal_in run m) mover) (Step.Give m mover 
 
 unfoldable pub steps_of : Run → Maker → List Step
 steps_of run m =
-    hearings m 0 (waiting_in run m) ++ (moving run m Mover.Batch ++ (moving run m Mover.Emit ++ moving run m Mover.Execute))
+    hearings m 0 (waiting_in run m)
+    ++ (moving run m Mover.Batch ++ (moving run m Mover.Emit ++ (moving run m Mover.Execute ++ moving run m Mover.Checkpoint)))
 
 abbrev pub steps_from : Run → List Maker → List Step
 steps_from run [] = []

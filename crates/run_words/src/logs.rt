@@ -32,6 +32,8 @@ pub enum Entry {
     Sent(Item),
     /// A round was executed.
     Executed,
+    /// A Checkpoint was put, or the low mark moved.
+    Marked,
 }
 
 /// The entries of a replica, in the order in which they were made.

@@ -11,4 +11,6 @@ pub enum Mover {
     Emit,
     /// The next round may be executed.
     Execute,
+    /// A Checkpoint that is due may be put, or the low mark may move.
+    Checkpoint,
 }

@@ -23,6 +23,8 @@ pub enum Act {
     Emit,
     /// Execute the next round.
     Execute,
+    /// Put a Checkpoint that is due, or else move the low mark.
+    Checkpoint,
 }
 
 /// What a party answers.
