@@ -1,34 +1,34 @@
 -- A Checkpoint that is put, and a low mark that moves, keep the relation; and so do the messages that are considered again.
-use Rattle.std.proofs.Common.{◌≡◌, ℕ, zero, suc, ◌+◌, ◌-◌, ◌*◌, ◌<◌, ◌≤◌, List, [], ◌∷◌, ◌++◌, length, map, Option, Some, None, inl, inr, refl, sym, ap, subst, ◌∙◌, arith}
-use Rattle.std.specs.List.{filter, range_with_len}
-use Rattle.std.specs.Bool.{IsTrue}
-use Rattle.std.specs.Option.{IsSome}
-use Rattle.fab_base.specs.declared.limits.TheConstants.{GREATEST_NUMBER}
+use Rattle.std.proofs.Common.{◌≡◌, ℕ, zero, suc, ◌+◌, ◌<◌, ◌≤◌, true, ◌&&◌, ◌||◌, nat_eq, nat_lt, List, [], ◌∷◌, ◌++◌, length, map, Option, Some, None, inl, inr, refl, sym, ap, subst, ◌∙◌, arith}
+use Rattle.std.specs.Option.{IsSome, option_map}
+use Rattle.std.specs.List.{Contains}
+use Rattle.std.proofs.lemmas.Option.{same_Some}
+use Rattle.std.proofs.lemmas.List.Elements.{All-contains}
+use Rattle.std.proofs.lemmas.Bool.Decides.{nat_tests}
 use Rattle.fab_base.specs.Limits.{Roster}
-use Rattle.fab_base.specs.Quorums.{quorum_size}
-use Rattle.fab_base.specs.Roster.{size_of}
+use Rattle.fab_base.specs.Quorums.{quorum_size, IsRisingFrom}
 use Rattle.fab_base.specs.declared.ids.Hash32.{Hash32}
 use Rattle.fab_base.specs.declared.ids.ReplicaId.{ReplicaId}
-use Rattle.fab_base.specs.declared.messages.CommitCert.{CommitCert}
 use Rattle.fab_base.specs.declared.messages.StableVote.{StableVote}
-use Rattle.fab_base.specs.declared.messages.PreparedCert.{PreparedCert}
 use Rattle.fab_base.specs.declared.messages.Message.{Message}
 use Rattle.fab_base.specs.declared.answers.Answer.{Answer}
-use Rattle.fab_base.specs.declared.answers.Item.{Item}
-use Rattle.fab_rules.specs.Lists.{In, greatest}
+use Rattle.fab_base.proofs.Tests.{and_both}
+use Rattle.fab_rules.specs.Lists.{In, leads_by, rises_by, greatest}
+use Rattle.fab_rules.specs.Format.{comes_before}
 use Rattle.fab_rules.specs.Diary.{Entry, Heard, Said}
 use Rattle.fab_rules.specs.Rules.{KeepsRules, MaySay}
 use Rattle.fab_rules.specs.Growth.{after_saying}
-use Rattle.fab_rules.proofs.Lists.{of_filter, in_append_cases}
+use Rattle.fab_rules.proofs.Lists.{of_filter, in_append_cases, in_from_contains, contains_from_in}
 use Rattle.pbft_slots.specs.Window.{moved_to}
-use Rattle.checkpoint_core.specs.Checkpoints.{stable, proof_of, pruned}
+use Rattle.checkpoint_core.specs.Checkpoints.{stable, first_for, proof_of}
+use Rattle.checkpoint_core.proofs.Ranking.{proof_full, proof_rises, proof_agrees, proof_counts}
 use Rattle.fab_machine.specs.State.{Due, Local, wanted}
 use Rattle.fab_machine.specs.Items.{statements_by}
-use Rattle.fab_machine.specs.Voting.{Told, unmoved}
+use Rattle.fab_machine.specs.Voting.{Told}
 use Rattle.fab_machine.specs.Hearing.{hear}
 use Rattle.fab_machine.specs.Checkpointing.{checkpoint_of, voted, stable_rounds, votes_or_none, after_move, heard_again, moved, next_due, move_to, checkpoint_by, checkpoint}
 use Rattle.fab_machine.specs.LocalState.{AreAbove, AreMarked}
-use Rattle.fab_machine.specs.Relation.{IsProof, IsOfView, IsNotedCheckpoint, AreReported, AreLocal, IsBacked, after_puts, IsTold}
+use Rattle.fab_machine.specs.Relation.{IsProof, IsOfView, IsNotedCheckpoint, AreReported, AreLocal, IsBacked, after_puts}
 use Rattle.fab_machine.specs.declared.outs.Out.{Out}
 use Rattle.fab_machine.proofs.Members.{IsMember}
 use Rattle.fab_machine.proofs.Moving.{moved_window, certificate_before}
@@ -36,7 +36,8 @@ use Rattle.fab_machine.proofs.Noting.{is_some_by, noted_moved}
 use Rattle.fab_machine.proofs.MoreHeard.{backed_more}
 use Rattle.fab_machine.proofs.Shaping.{shaped_checkpoint}
 use Rattle.fab_machine.proofs.Marking.{marked_put, IsMoveTo, is_move_to}
-use Rattle.fab_machine.proofs.States.{IsStill, state_marked}
+use Rattle.fab_machine.proofs.States.{state_marked}
+use Rattle.fab_machine.proofs.CheckpointStates.{after_move_state}
 use Rattle.fab_machine.proofs.Locals.{local_beside, local_said, checkpoint_quotes}
 use Rattle.fab_machine.proofs.Telling.{IsToldOf, told_nothing, unmoved_told, own, told_put}
 use Rattle.fab_machine.proofs.Hearing.{hear_keeps}
@@ -100,12 +101,44 @@ reported_moved : (r : Roster) (me : ReplicaId) (l : Local) (low : ℕ) (full : L
     → AreReported r me l.view l.slots l.prepared full → AreReported r me l.view (moved_to l.slots low) (after_move l low).prepared full
 reported_moved r me l low full up places old s k h = old s k (certificate_before l.slots low l.prepared s k up places h)
 
+-- members of one cluster with rising indexes rise
+rises_within : (cluster n least : ℕ) (votes : List StableVote) → IsRisingFrom least n (map (λ v. v.signer.index) votes)
+    → ((v : StableVote) → In v votes → v.signer.cluster ≡ cluster) → rises_by comes_before (map (λ v. v.signer) votes) ≡ true
+rises_within cluster n least [] rising own = refl
+rises_within cluster n least (v ∷ rest) rising own =
+    and_both (leads_by comes_before v.signer (map (λ x. x.signer) rest)) (rises_by comes_before (map (λ x. x.signer) rest)) (leads rest rising.2 (λ x h. own x (inr h)))
+    (rises_within cluster n (v.signer.index + 1) rest rising.2 (λ x h. own x (inr h)))
+  where
+    behind : (a b i j : ℕ) → a ≡ cluster → b ≡ cluster → i + 1 ≤ j → (nat_lt a b || (nat_eq a b && nat_lt i j)) ≡ true
+    behind a b i j e f h = grind (arith, nat_tests)
+
+    leads : (votes : List StableVote) → IsRisingFrom (v.signer.index + 1) n (map (λ x. x.signer.index) votes) → ((x : StableVote) → In x votes → x.signer.cluster ≡ cluster)
+        → leads_by comes_before v.signer (map (λ x. x.signer) votes) ≡ true
+    leads [] r o = refl
+    leads (x ∷ more) r o = behind v.signer.cluster x.signer.cluster v.signer.index x.signer.index (own v (inl refl)) (o x (inl refl)) r.0
+
 -- the stable round has its proof
 proof_there : (r : Roster) (me : ReplicaId) (l : Local) (low : ℕ) (digest : Hash32) (full : List Entry) → stable l.checkpoints low ≡ Some digest
     → AreLocal r me l full → IsProof r me low (votes_or_none (proof_of l.checkpoints low)) full
 proof_there r me l low digest full is are =
-    let p = proof_worth l.checkpoints low digest are.is.marked.counted is in
-    {!!}
+    let c = l.checkpoints in
+    let votes = first_for c low digest in
+    let there : proof_of c low ≡ Some votes = ap (option_map (first_for c low)) is in
+    let same : votes_or_none (proof_of c low) ≡ votes = ap votes_or_none there in
+    let counts = proof_counts c low votes there in
+    let inside = λ (v : StableVote) (h : In v votes). in_from_contains c.votes v (All-contains (λ x. Contains c.votes x) votes v counts (contains_from_in votes v h)) in
+    let own = λ (v : StableVote) (h : In v votes). are.is.marked.own v (inside v h) in
+    let agrees = λ (v : StableVote) (h : In v votes).
+    All-contains (λ x. (x.round ≡ low) × (stable c low ≡ Some x.digest)) votes v (proof_agrees c low votes there) (contains_from_in votes v h) in
+    let proof : IsProof r me low votes full = record {
+      digest = digest;
+      count = proof_full c low votes are.is.marked.counted there ∙ ap quorum_size are.is.marked.members;
+      rises = rises_within me.cluster c.members 0 votes (proof_rises c low votes are.is.marked.counted there) own;
+      heard = λ v h. are.heard.checkpoints v (inside v h);
+      own = own;
+      agree = λ v h. (let a = agrees v h in (a.0, same_Some v.digest digest (sym a.1 ∙ is)));
+    } in
+    subst (λ p. IsProof r me low p full) (sym same) proof
 
 moved_local : (r : Roster) (me : ReplicaId) (l : Local) (low : ℕ) (digest : Hash32) (full : List Entry) → l.slots.low ≤ low → low ≤ l.executed → l.due ≡ []
     → stable l.checkpoints low ≡ Some digest → AreLocal r me l full → AreLocal r me (after_move l low) full
@@ -113,7 +146,7 @@ moved_local r me l low digest full up done none is are =
     let moves = moved_window l.slots low are.is.opened.window up in
     let h = are.heard in
     record {
-      is = moved_state r me l low up done none are.is;
+      is = after_move_state r me l low none up are.is;
       shaped = are.shaped;
       heard = record {
         proposals = λ slot p e. h.proposals slot p (moves.proposals slot p e);

@@ -192,11 +192,14 @@ due_now r l low round digest full new size chain d h = go (nat_lt low round) (na
     now = record { round = round; digest = digest }
 
     is_due : round % r.interval ≡ 0 → (l.executed < round) × IsDue r full now
-    is_due met = (new, record {
-      met = met;
-      done = omega (arith, size);
-      chain_is = chain ∙ ap chain_of (sym (ap (λ n. take n (ledger full)) size ∙ take_all (length (ledger full)) (ledger full) (omega arith)));
-    })
+    is_due met = (
+      new,
+      record {
+        met = met;
+        done = omega (arith, size);
+        chain_is = chain ∙ ap chain_of (sym (ap (λ n. take n (ledger full)) size ∙ take_all (length (ledger full)) (ledger full) (omega arith)));
+      },
+    )
 
     go : (a b : Bool) → nat_eq (round % r.interval) 0 ≡ b → In d (cond (a && b) (now ∷ []) []) → (l.executed < d.round) × IsDue r full d
     go false b e q = absurd q

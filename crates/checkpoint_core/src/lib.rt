@@ -1,4 +1,0 @@
-//! Checkpoints.
-#![tactic(auto)]
-
-pub use fab_base::NoMemory;
