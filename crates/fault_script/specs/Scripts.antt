@@ -12,7 +12,7 @@ use Rattle.fault_script.specs.declared.scripts.Wish.{Wish}
 use Rattle.fault_script.specs.Drafts.{Draft, empty_draft}
 use Rattle.fault_script.specs.Fields.{is_within}
 use Rattle.fault_script.specs.Lines.{line}
-use Rattle.fault_script.specs.Settings.{are_settings}
+use Rattle.fault_script.specs.Settings.{interval_of, are_settings}
 
 -- goes on from a good line, or ends at a bad one of this number
 abbrev pub after_line : ℕ → Result Draft Why → (Draft → Result Draft BadScript) → Result Draft BadScript
@@ -32,6 +32,7 @@ script_made draft = record {
   requests = draft.wishes;
   batch = draft.settings.batch.value;
   window = draft.settings.window.value;
+  interval = interval_of draft.settings;
   seed = draft.settings.seed.value;
   turns = draft.settings.turns.value;
   height = draft.settings.height.value;
@@ -83,7 +84,7 @@ keeps_limits script =
     are_sizes script.sizes
     && (are_homes (length script.sizes) script.homes
     && (are_wishes (length script.homes) script.requests
-    && are_settings script.batch script.window script.seed script.turns script.height))
+    && are_settings script.batch script.window script.interval script.seed script.turns script.height))
 
 -- the stamps are how many requests each client has
 abbrev pub AreCounts : List ℕ → List Wish → Type 0

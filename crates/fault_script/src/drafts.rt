@@ -151,12 +151,14 @@ impl Draft {
             wishes,
             settings,
         } = self;
+        let interval = settings.interval_of();
         Script {
             sizes: Rows::from_vec(sizes),
             homes: Rows::from_vec(homes),
             requests: Rows::from_vec(wishes),
             batch: settings.batch.value as u8,
             window: settings.window.value as u8,
+            interval: interval as u8,
             seed: settings.seed.value,
             turns: settings.turns.value as u32,
             height: settings.height.value as u8,

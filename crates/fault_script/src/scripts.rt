@@ -28,6 +28,8 @@ pub struct Script {
     pub batch: u8,
     /// How many slots above the low mark are open at once: 1 to `MOST_SLOTS`, 16 where no line sets it.
     pub window: u8,
+    /// How many rounds there are from one checkpoint to the next: 1 to `window`, the lesser of 8 and `window` where no line sets it.
+    pub interval: u8,
     /// What a run's keys, and the choices of a simulated one, are made from: any number, 0 where no line sets it.
     pub seed: u64,
     /// The entries of all journals together at which a run ends as spent: 1 to `MOST_TURNS`, 100,000 where no line sets it.

@@ -1,7 +1,7 @@
 //! The settings of a script: numbers that a line may set, each once.
 ghost use Rattle.std.specs.Prelude.{◌≡◌, ◌≤◌, true, IfOk};
 ghost use Rattle.fault_script.specs.Words.{words_of};
-ghost use Rattle.fault_script.specs.Settings.{unset, set_once, set_within, default_settings, batch_line, window_line, seed_line, turns_line, is_height, height_of, height_line, setting_of_kind};
+ghost use Rattle.fault_script.specs.Settings.{unset, set_once, set_within, default_settings, batch_line, least_window, window_line, interval_line, interval_of, seed_line, turns_line, is_height, height_of, height_line, setting_of_kind};
 
 use crate::faults::Why;
 use crate::fields::{number, one_number};
@@ -70,24 +70,25 @@ fn height_of(word: &[u8]) -> Result<u64, Why>
 pub(crate) struct Settings {
     pub(crate) batch: Setting,
     pub(crate) window: Setting,
+    pub(crate) interval: Setting,
     pub(crate) seed: Setting,
     pub(crate) turns: Setting,
     pub(crate) height: Setting,
 }
 
 impl Model for Settings {
-    ghost use Rattle.std.specs.Prelude.{◌≡◌, ◌≤◌, true};
+    ghost use Rattle.std.specs.Prelude.{◌≡◌, ◌≤◌, true, IsTrue};
     ghost use Rattle.fab_base.specs.declared.limits.TheConstants.{MOST_REQUESTS, MOST_SLOTS};
     ghost use Rattle.fault_script.specs.declared.settings.TheConstants.{MOST_TURNS};
     ghost use Rattle.fault_script.specs.Settings.{Settings, is_height};
 
     ghost Value = { Settings };
 
-    ghost view = { λ s. record { batch = s.batch; window = s.window; seed = s.seed; turns = s.turns; height = s.height } };
+    ghost view = { λ s. record { batch = s.batch; window = s.window; interval = s.interval; seed = s.seed; turns = s.turns; height = s.height } };
 
-    ghost inverse = { λ s. record { batch = s.batch; window = s.window; seed = s.seed; turns = s.turns; height = s.height } };
+    ghost inverse = { λ s. record { batch = s.batch; window = s.window; interval = s.interval; seed = s.seed; turns = s.turns; height = s.height } };
 
-    ghost invariant = { λ s. (1 ≤ s.batch.value) × (s.batch.value ≤ MOST_REQUESTS) × (1 ≤ s.window.value) × (s.window.value ≤ MOST_SLOTS) × (1 ≤ s.turns.value) × (s.turns.value ≤ MOST_TURNS) × (is_height s.height.value ≡ true) };
+    ghost invariant = { λ s. (1 ≤ s.batch.value) × (s.batch.value ≤ MOST_REQUESTS) × (1 ≤ s.window.value) × (s.window.value ≤ MOST_SLOTS) × (1 ≤ s.interval.value) × (IsTrue s.interval.given → s.interval.value ≤ s.window.value) × (1 ≤ s.turns.value) × (s.turns.value ≤ MOST_TURNS) × (is_height s.height.value ≡ true) };
 }
 
 impl Settings {
@@ -98,6 +99,7 @@ impl Settings {
         Settings {
             batch: Setting::unset(8),
             window: Setting::unset(16),
+            interval: Setting::unset(8),
             seed: Setting::unset(0),
             turns: Setting::unset(100_000),
             height: Setting::unset(10),
@@ -112,12 +114,44 @@ impl Settings {
         Ok(self)
     }
 
+    /// The least window that a line may still set: an interval that a line above set is to fit into it.
+    fn least_window(self) -> u64
+        ensures { result ≡ least_window self }
+    {
+        if self.interval.given {
+            self.interval.value
+        } else {
+            1
+        }
+    }
+
     /// `window L`
     fn window_line(mut self, words: Words<'_>) -> Result<Settings, Why>
         ensures { result ≡ window_line self (words_of words.entry.rest.now) }
     {
-        self.window = self.window.set_within(1, MOST_SLOTS as u64, words)?;
+        let least = self.least_window();
+        self.window = self.window.set_within(least, MOST_SLOTS as u64, words)?;
         Ok(self)
+    }
+
+    /// `interval K`
+    fn interval_line(mut self, words: Words<'_>) -> Result<Settings, Why>
+        ensures { result ≡ interval_line self (words_of words.entry.rest.now) }
+    {
+        self.interval = self.interval.set_within(1, self.window.value, words)?;
+        Ok(self)
+    }
+
+    /// The interval in the end: what a line set, else the lesser of its default and the window.
+    pub(crate) fn interval_of(self) -> u64
+        ensures is { result ≡ interval_of self }
+        ensures within { (1 ≤ result) × (result ≤ self.window.value) }
+    {
+        if self.interval.given {
+            self.interval.value
+        } else {
+            self.interval.value.min(self.window.value)
+        }
     }
 
     /// `seed S`
@@ -153,6 +187,8 @@ impl Settings {
             self.batch_line(words)
         } else if same_word(kind, b"window") {
             self.window_line(words)
+        } else if same_word(kind, b"interval") {
+            self.interval_line(words)
         } else if same_word(kind, b"seed") {
             self.seed_line(words)
         } else if same_word(kind, b"turns") {
