@@ -1,6 +1,6 @@
 -- The Checkpoints that the members of a cluster said (PBFT, section 4.3): of each member the first one for a round counts. A round is
 -- stable where a quorum of the members agree on it, and what lies behind a stable round may be let go.
-use Rattle.std.specs.Prelude.{◌≡◌, ◌<◌, ◌≤◌, ℕ, ◌++◌, List, [], ◌∷◌, length, max, take, filter, count_by, All, nat_eq, nat_le, nat_lt, Bool, false, ◌&&◌, Option, Some, None, if◌then◌else◌}
+use Rattle.std.specs.Prelude.{◌≡◌, ◌<◌, ◌≤◌, ℕ, ◌++◌, List, [], ◌∷◌, max, take, filter, count_by, All, nat_eq, nat_le, nat_lt, Bool, false, ◌&&◌, Option, Some, None, if◌then◌else◌}
 use Rattle.std.specs.List.{flat_map, range_with_len}
 use Rattle.std.specs.Option.{option_map}
 use Rattle.fab_base.specs.Digests.{same_digest}
