@@ -2,7 +2,7 @@
 use Rattle.std.proofs.Common.{◌≡◌, ℕ, zero, suc, [], replicate, Option, Some, None, refl, sym, ap, ◌∙◌, arith}
 use Rattle.std.specs.Option.{option_and_then}
 use Rattle.std.proofs.lemmas.List.{length-replicate}
-use Rattle.std.proofs.lemmas.List.Elements.{All-nil, All-replicate}
+use Rattle.std.proofs.lemmas.List.Elements.{All-replicate}
 use Rattle.fab_base.specs.Limits.{Roster}
 use Rattle.fab_base.specs.Roster.{size_of}
 use Rattle.fab_base.specs.declared.ids.ReplicaId.{ReplicaId}
@@ -12,7 +12,7 @@ use Rattle.pbft_slots.specs.declared.slot.Slot.{Slot}
 use Rattle.pbft_slots.specs.Ballots.{Counted}
 use Rattle.pbft_slots.specs.Slots.{empty_slot}
 use Rattle.pbft_slots.specs.Window.{empty_window, place_in, slot_at}
-use Rattle.checkpoint_core.specs.Checkpoints.{IsOpen, no_checkpoints}
+use Rattle.checkpoint_core.proofs.Keeping.{none_are}
 use Rattle.pbft_slots.proofs.Opened.{window_new}
 use Rattle.fab_machine.specs.State.{fresh_local, fresh}
 use Rattle.fab_machine.specs.LocalState.{IsLocalState}
@@ -61,7 +61,7 @@ starts_state r me is =
       waiting = record { fit = λ x h. absurd h; homes = λ x h. absurd h; order = tt };
       kept = λ m h. absurd h;
       marked = record {
-        counted = record { some = is.some; few = is.few; counted = All-nil (IsOpen (no_checkpoints n)); first = tt };
+        counted = none_are n is.some is.few;
         members = refl;
         one_low = refl;
         own = λ v h. absurd h;
