@@ -50,7 +50,7 @@ all_wishes script h =
     let clients = are_homes (length script.sizes) script.homes in
     let each = list_all (is_wish (length script.homes)) script.requests in
     let requests = are_wishes (length script.homes) script.requests in
-    let settings = are_settings script.batch script.window script.seed script.turns script.height in
+    let settings = are_settings script.batch script.window script.interval script.seed script.turns script.height in
     and_left each (stamps_run [] script.requests)
     (and_left requests settings (and_right clients (requests && settings) (and_right (are_sizes script.sizes) (clients && (requests && settings)) h)))
 

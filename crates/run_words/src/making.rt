@@ -19,6 +19,7 @@ impl Transcript {
                 requests: Rows::new(alloc),
                 batch: 8,
                 window: 16,
+                interval: 8,
                 seed: 0,
                 turns: 100_000,
                 height: 10,

@@ -1,5 +1,5 @@
 -- What a script's run is made of (ours): its members, what each of its replicas is made with, and the rules of its one run.
-use Rattle.std.specs.Prelude.{ℕ, nat_le, List, map, if◌then◌else◌}
+use Rattle.std.specs.Prelude.{List, map}
 use Rattle.fab_base.specs.Limits.{Roster}
 use Rattle.fab_base.specs.declared.ids.ReplicaId.{ReplicaId}
 use Rattle.fab_base.specs.declared.ids.Who.TheVariants.{Replica}
@@ -11,17 +11,13 @@ use Rattle.script_keys.specs.Rings.{ring_of}
 use Rattle.script_keys.specs.Requests.{copies_of}
 use Rattle.sim_sched.specs.Whole.{rules_of}
 
--- the lesser of 8 and the window
-abbrev pub interval_of : ℕ → ℕ
-interval_of window = if nat_le 8 window then 8 else window
-
 -- the members of a script, and its settings
 abbrev pub roster_of : Script → Roster
 roster_of script = record {
   sizes = script.sizes;
   homes = script.homes;
   window = script.window;
-  interval = interval_of script.window;
+  interval = script.interval;
   batch = script.batch;
 }
 
