@@ -5,7 +5,7 @@ use Rattle.run_words.specs.declared.logs.Pending.{Pending}
 use Rattle.run_words.specs.Journal.{moves}
 use Rattle.run_words.specs.Runs.{hearings, Step}
 use Rattle.sim_sched.specs.declared.seats.Choice.{Choice}
-use Rattle.sim_sched.specs.Seats.{SeatView, can, seat_steps, all_steps, choice_after, IsChosen, IsPossible, Finds, AllOpen}
+use Rattle.sim_sched.specs.Seats.{SeatView, can, seat_steps, all_steps, number_behind, choice_or, choice_after, IsChosen, IsPossible, Finds, AllOpen}
 use Rattle.sim_sched.proofs.SeatFacts.{hearings_long}
 
 pub in_front : {X : Type 0} (a b : List X) (k : ℕ) (d : X) → k < length a → get_or (a ++ b) k d ≡ get_or a k d
@@ -39,71 +39,46 @@ chosen_copy s k d h =
 abbrev event : SeatView → Bool → Mover → List Step
 event s b mover = cond b (Step.Give s.maker mover ∷ []) []
 
-events_at : (s : SeatView) (b e x : Bool) (n : ℕ) (d : Step)
-    → n < length (event s b Mover.Batch ++ (event s e Mover.Emit ++ event s x Mover.Execute))
-    → IsChosen s (choice_after b e n) (get_or (event s b Mover.Batch ++ (event s e Mover.Emit ++ event s x Mover.Execute)) n d)
-events_at s true e x zero d h = (refl, refl)
-events_at s true true x (suc zero) d h = (refl, refl)
-events_at s true true true (suc (suc zero)) d h = (refl, refl)
-events_at s true true true (suc (suc (suc n))) d h = absurd (omega arith)
-events_at s true true false (suc (suc n)) d h = absurd (omega arith)
-events_at s true false true (suc zero) d h = (refl, refl)
-events_at s true false true (suc (suc n)) d h = absurd (omega arith)
-events_at s true false false (suc n) d h = absurd (omega arith)
-events_at s false true x zero d h = (refl, refl)
-events_at s false true true (suc zero) d h = (refl, refl)
-events_at s false true true (suc (suc n)) d h = absurd (omega arith)
-events_at s false true false (suc n) d h = absurd (omega arith)
-events_at s false false true zero d h = (refl, refl)
-events_at s false false true (suc n) d h = absurd (omega arith)
-events_at s false false false n d h = absurd (omega arith)
+-- of a list of steps the one of each number is chosen so, and is possible
+abbrev IsPick : SeatView → List Step → (ℕ → Choice) → Type 0
+IsPick s steps choice = (n : ℕ) (d : Step) → n < length steps → IsPossible s (choice n) × IsChosen s (choice n) (get_or steps n d)
+
+pick_first : (s : SeatView) (mover : Mover) (b : Bool) (rest : List Step) (later : ℕ → Choice) → moves s.maker s.journal mover ≡ b
+    → IsPick s rest later → IsPick s (event s b mover ++ rest) (λ n. choice_or mover later (number_behind b n))
+pick_first s mover true rest later e p zero d h = (e, refl, refl)
+pick_first s mover true rest later e p (suc n) d h = p n d (omega arith)
+pick_first s mover false rest later e p n d h = p n d h
+
+pick_last : (s : SeatView) (b : Bool) → moves s.maker s.journal Mover.Checkpoint ≡ b
+    → IsPick s (event s b Mover.Checkpoint) (λ n. Choice.Give Mover.Checkpoint)
+pick_last s true e zero d h = (e, refl, refl)
+pick_last s true e (suc n) d h = absurd (omega arith)
+pick_last s false e n d h = absurd (omega arith)
+
+abbrev events : SeatView → List Step
+events s = can s Mover.Batch ++ (can s Mover.Emit ++ (can s Mover.Execute ++ can s Mover.Checkpoint))
+
+abbrev pub event_choice : SeatView → ℕ → Choice
+event_choice s n =
+    choice_after (moves s.maker s.journal Mover.Batch) (moves s.maker s.journal Mover.Emit) (moves s.maker s.journal Mover.Execute) n
+
+pick_event : (s : SeatView) → IsPick s (events s) (event_choice s)
+pick_event s =
+    pick_first s Mover.Batch _ _ _ refl
+    (pick_first s Mover.Emit _ _ _ refl (pick_first s Mover.Execute _ _ _ refl (pick_last s _ refl)))
 
 pub chosen_event : (s : SeatView) (k : ℕ) (d : Step) → length s.way ≤ k → k < length (seat_steps s)
-    → IsChosen s (choice_after (moves s.maker s.journal Mover.Batch) (moves s.maker s.journal Mover.Emit) (k - length s.way))
-    (get_or (seat_steps s) k d)
+    → IsPossible s (event_choice s (k - length s.way)) × IsChosen s (event_choice s (k - length s.way)) (get_or (seat_steps s) k d)
 unfolding seat_steps
 chosen_event s k d h g =
-    let tail : List Step = can s Mover.Batch ++ (can s Mover.Emit ++ can s Mover.Execute) in
     let n = hearings_long s.maker 0 s.way in
-    let l : length (seat_steps s) ≡ length (hearings s.maker 0 s.way) + length tail = length-append (hearings s.maker 0 s.way) tail in
+    let l : length (seat_steps s) ≡ length (hearings s.maker 0 s.way) + length (events s) = length-append (hearings s.maker 0 s.way) (events s) in
     let e : get_or (seat_steps s) k d
-    ≡ get_or tail (k - length (hearings s.maker 0 s.way)) d = behind (hearings s.maker 0 s.way) tail k d (omega arith) in
+    ≡ get_or (events s) (k - length (hearings s.maker 0 s.way)) d = behind (hearings s.maker 0 s.way) (events s) k d (omega arith) in
     let f : k - length (hearings s.maker 0 s.way) ≡ k - length s.way = ap (λ j. k - j) n in
-    let short : k - length s.way < length tail = omega arith in
-    subst (λ (x : Step). IsChosen s
-    (choice_after (moves s.maker s.journal Mover.Batch) (moves s.maker s.journal Mover.Emit) (k - length s.way)) x)
-    (sym (e ∙ ap (λ j. get_or tail j d) f))
-    (events_at s (moves s.maker s.journal Mover.Batch) (moves s.maker s.journal Mover.Emit) (moves s.maker s.journal Mover.Execute)
-    (k - length s.way) d short)
-
-events_possible : (s : SeatView) (b e x : Bool) (n : ℕ) → moves s.maker s.journal Mover.Batch ≡ b → moves s.maker s.journal Mover.Emit ≡ e
-    → moves s.maker s.journal Mover.Execute ≡ x
-    → n < length (event s b Mover.Batch ++ (event s e Mover.Emit ++ event s x Mover.Execute)) → IsPossible s (choice_after b e n)
-events_possible s true e x zero p q r h = p
-events_possible s true true x (suc zero) p q r h = q
-events_possible s true true true (suc (suc zero)) p q r h = r
-events_possible s true true true (suc (suc (suc n))) p q r h = absurd (omega arith)
-events_possible s true true false (suc (suc n)) p q r h = absurd (omega arith)
-events_possible s true false true (suc zero) p q r h = r
-events_possible s true false true (suc (suc n)) p q r h = absurd (omega arith)
-events_possible s true false false (suc n) p q r h = absurd (omega arith)
-events_possible s false true x zero p q r h = q
-events_possible s false true true (suc zero) p q r h = r
-events_possible s false true true (suc (suc n)) p q r h = absurd (omega arith)
-events_possible s false true false (suc n) p q r h = absurd (omega arith)
-events_possible s false false true zero p q r h = r
-events_possible s false false true (suc n) p q r h = absurd (omega arith)
-events_possible s false false false n p q r h = absurd (omega arith)
-
-pub event_possible : (s : SeatView) (k : ℕ) → length s.way ≤ k → k < length (seat_steps s)
-    → IsPossible s (choice_after (moves s.maker s.journal Mover.Batch) (moves s.maker s.journal Mover.Emit) (k - length s.way))
-unfolding seat_steps
-event_possible s k h g =
-    let tail : List Step = can s Mover.Batch ++ (can s Mover.Emit ++ can s Mover.Execute) in
-    let n = hearings_long s.maker 0 s.way in
-    let l : length (seat_steps s) ≡ length (hearings s.maker 0 s.way) + length tail = length-append (hearings s.maker 0 s.way) tail in
-    events_possible s (moves s.maker s.journal Mover.Batch) (moves s.maker s.journal Mover.Emit) (moves s.maker s.journal Mover.Execute)
-    (k - length s.way) refl refl refl (omega arith)
+    let short : k - length s.way < length (events s) = omega arith in
+    subst (λ (x : Step). IsPossible s (event_choice s (k - length s.way)) × IsChosen s (event_choice s (k - length s.way)) x)
+    (sym (e ∙ ap (λ j. get_or (events s) j d) f)) (pick_event s (k - length s.way) d short)
 
 -- ---- over all seats
 

@@ -44,12 +44,14 @@ would_move m j Mover.Batch = refl
 would_move m j Mover.Nudge = refl
 would_move m j Mover.Emit = refl
 would_move m j Mover.Execute = refl
+would_move m j Mover.Checkpoint = refl
 
 made_of : (m : Maker) (j : List Entry) (mover : Mover) → made_by m j (act_of mover) ≡ entry_of m j mover
 made_of m j Mover.Batch = refl
 made_of m j Mover.Nudge = refl
 made_of m j Mover.Emit = refl
 made_of m j Mover.Execute = refl
+made_of m j Mover.Checkpoint = refl
 
 grown : (m : Maker) (j : List Entry) (mover : Mover)
     → cond (would m j (act_of mover)) (j ++ made_by m j (act_of mover) ∷ []) j ≡ cond (moves m j mover) (j ++ entry_of m j mover ∷ []) j
@@ -97,13 +99,16 @@ hearings_long m k [] = refl
 hearings_long m k (c ∷ rest) = ap suc (hearings_long m (suc k) rest)
 
 pub count_is : (s : SeatView)
-    → length (seat_steps s) ≡ length s.way + length (can s Mover.Batch) + length (can s Mover.Emit) + length (can s Mover.Execute)
+    → length (seat_steps s)
+    ≡ length s.way + length (can s Mover.Batch) + length (can s Mover.Emit) + length (can s Mover.Execute) + length (can s Mover.Checkpoint)
 unfolding seat_steps
 count_is s =
     let a = hearings_long s.maker 0 s.way in
-    let b = length-append (hearings s.maker 0 s.way) (can s Mover.Batch ++ (can s Mover.Emit ++ can s Mover.Execute)) in
-    let c = length-append (can s Mover.Batch) (can s Mover.Emit ++ can s Mover.Execute) in
-    let d = length-append (can s Mover.Emit) (can s Mover.Execute) in
+    let b = length-append (hearings s.maker 0 s.way)
+    (can s Mover.Batch ++ (can s Mover.Emit ++ (can s Mover.Execute ++ can s Mover.Checkpoint))) in
+    let c = length-append (can s Mover.Batch) (can s Mover.Emit ++ (can s Mover.Execute ++ can s Mover.Checkpoint)) in
+    let d = length-append (can s Mover.Emit) (can s Mover.Execute ++ can s Mover.Checkpoint) in
+    let e = length-append (can s Mover.Execute) (can s Mover.Checkpoint) in
     omega arith
 
 pub at_any : {X : Type 0} (xs : List X) (k : ℕ) (a b : X) → k < length xs → get_or xs k a ≡ get_or xs k b

@@ -1,5 +1,5 @@
 -- What a run sees of a replica's seat, and what each call does to it.
-use Rattle.std.specs.Prelude.{◌≡◌, ℕ, zero, suc, ◌+◌, Bool, true, false, cond, List, [], ◌∷◌, ◌++◌, length, Result, Ok, Err, slice_index_or, ◌<◌}
+use Rattle.std.specs.Prelude.{◌≡◌, ℕ, zero, suc, ◌+◌, Bool, true, false, cond, List, [], ◌∷◌, ◌++◌, length, Option, Some, None, Result, Ok, Err, slice_index_or, ◌<◌}
 use Rattle.std.specs.List.{remove, flat_map}
 use Rattle.fab_base.specs.declared.ids.ReplicaId.{ReplicaId}
 use Rattle.fab_base.specs.declared.messages.Message.{Message}
@@ -37,22 +37,32 @@ abbrev pub can : SeatView → Mover → List Step
 can s mover = cond (moves s.maker s.journal mover) (Step.Give s.maker mover ∷ []) []
 
 unfoldable pub seat_steps : SeatView → List Step
-seat_steps s = hearings s.maker 0 s.way ++ (can s Mover.Batch ++ (can s Mover.Emit ++ can s Mover.Execute))
+seat_steps s =
+    hearings s.maker 0 s.way ++ (can s Mover.Batch ++ (can s Mover.Emit ++ (can s Mover.Execute ++ can s Mover.Checkpoint)))
 
 abbrev pub all_steps : List SeatView → List Step
 all_steps [] = []
 all_steps (s ∷ rest) = seat_steps s ++ all_steps rest
 
--- the step of this number among the events, where these can be given
-abbrev pub choice_behind_is : Bool → ℕ → Choice
-choice_behind_is true zero = Choice.Give Mover.Emit
-choice_behind_is true (suc k) = Choice.Give Mover.Execute
-choice_behind_is false k = Choice.Give Mover.Execute
+-- the number behind an event, where that can be given; none where the number is the event's own
+abbrev pub number_behind : Bool → ℕ → Option ℕ
+number_behind true zero = None
+number_behind true (suc k) = Some k
+number_behind false k = Some k
 
-abbrev pub choice_after : Bool → Bool → ℕ → Choice
-choice_after true e zero = Choice.Give Mover.Batch
-choice_after true e (suc k) = choice_behind_is e k
-choice_after false e k = choice_behind_is e k
+abbrev pub choice_or : Mover → (ℕ → Choice) → Option ℕ → Choice
+choice_or mover later None = Choice.Give mover
+choice_or mover later (Some k) = later k
+
+-- the step of this number among the events, where these can be given
+abbrev pub choice_after_emit : Bool → ℕ → Choice
+choice_after_emit x n = choice_or Mover.Execute (λ k. Choice.Give Mover.Checkpoint) (number_behind x n)
+
+abbrev pub choice_after_batch : Bool → Bool → ℕ → Choice
+choice_after_batch e x n = choice_or Mover.Emit (choice_after_emit x) (number_behind e n)
+
+abbrev pub choice_after : Bool → Bool → Bool → ℕ → Choice
+choice_after b e x n = choice_or Mover.Batch (choice_after_batch e x) (number_behind b n)
 
 abbrev pub IsChosen : SeatView → Choice → Step → Type 0
 IsChosen s (Choice.Hear j) (Step.Hear m k c) = (m ≡ s.maker) × (k ≡ j)

@@ -24,6 +24,7 @@ fn act_of(mover: Mover) -> Act
         Mover::Nudge => Act::Nudge,
         Mover::Emit => Act::Emit,
         Mover::Execute => Act::Execute,
+        Mover::Checkpoint => Act::Checkpoint,
     }
 }
 
@@ -63,6 +64,7 @@ impl<P: Party> Seat<P> {
             + self.weight(Mover::Batch)
             + self.weight(Mover::Emit)
             + self.weight(Mover::Execute)
+            + self.weight(Mover::Checkpoint)
     }
 
     /// Notes that a copy was refused: a parcel by its number; a request of a client isn't noted.

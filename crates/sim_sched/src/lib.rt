@@ -2,8 +2,8 @@
 //! transcript that these rules fix.
 //!
 //! Before each event the run is over where the journals together have as many entries as the script allows. Else the steps that can be
-//! made are counted: for each replica by id one for each copy on its way, in the order put, then a batch, a sending and an executing,
-//! each where it would make an entry. The generator's next word picks one of them; it is found by walking the seats, and no list of steps
+//! made are counted: for each replica by id one for each copy on its way, in the order put, then a batch, a sending, an executing and
+//! a Checkpoint, each where it would make an entry. The generator's next word picks one of them; it is found by walking the seats, and no list of steps
 //! is ever made. Where there is none, each replica by id is nudged; where no nudge moves one, the run has ended.
 //!
 //! A parcel's bytes move from a party's answer to the copy on its way, and with it to the hearing; they are never copied. A copy that a
