@@ -45,13 +45,13 @@ IsPick s steps choice = (n : ℕ) (d : Step) → n < length steps → IsPossible
 
 pick_first : (s : SeatView) (mover : Mover) (b : Bool) (rest : List Step) (later : ℕ → Choice) → moves s.maker s.journal mover ≡ b
     → IsPick s rest later → IsPick s (event s b mover ++ rest) (λ n. choice_or mover later (number_behind b n))
-pick_first s mover true rest later e p zero d h = (e, refl, refl)
+pick_first s mover true rest later e p zero d h = (e, (refl, refl))
 pick_first s mover true rest later e p (suc n) d h = p n d (omega arith)
 pick_first s mover false rest later e p n d h = p n d h
 
 pick_last : (s : SeatView) (b : Bool) → moves s.maker s.journal Mover.Checkpoint ≡ b
     → IsPick s (event s b Mover.Checkpoint) (λ n. Choice.Give Mover.Checkpoint)
-pick_last s true e zero d h = (e, refl, refl)
+pick_last s true e zero d h = (e, (refl, refl))
 pick_last s true e (suc n) d h = absurd (omega arith)
 pick_last s false e n d h = absurd (omega arith)
 
@@ -61,6 +61,12 @@ events s = can s Mover.Batch ++ (can s Mover.Emit ++ (can s Mover.Execute ++ can
 abbrev pub event_choice : SeatView → ℕ → Choice
 event_choice s n =
     choice_after (moves s.maker s.journal Mover.Batch) (moves s.maker s.journal Mover.Emit) (moves s.maker s.journal Mover.Execute) n
+
+pub choice_is : (s : SeatView) (b e x : Bool) (k n : ℕ) → b ≡ moves s.maker s.journal Mover.Batch → e ≡ moves s.maker s.journal Mover.Emit
+    → x ≡ moves s.maker s.journal Mover.Execute → k ≡ n → choice_after b e x k ≡ event_choice s n
+choice_is s b e x k n p q r u =
+    ap (λ v. choice_after v e x k) p ∙ ap (λ v. choice_after (moves s.maker s.journal Mover.Batch) v x k) q
+    ∙ ap (λ v. choice_after (moves s.maker s.journal Mover.Batch) (moves s.maker s.journal Mover.Emit) v k) r ∙ ap (event_choice s) u
 
 pick_event : (s : SeatView) → IsPick s (events s) (event_choice s)
 pick_event s =

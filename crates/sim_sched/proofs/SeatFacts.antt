@@ -120,6 +120,6 @@ pub same_copy : (xs : List Pending) (k : ℕ) (a b : Pending) → k < length xs 
 same_copy xs k a b h e f = e ∙ at_any xs k a b h ∙ f
 
 -- what an open party says of an event is what its journal tells
-pub open_moves : (shut moves : Bool) → shut ≡ false → (not shut && moves) ≡ moves
-open_moves true b e = absurd (cc)
-open_moves false b e = refl
+pub open_moves : (told shut moves : Bool) → told ≡ (not shut && moves) → shut ≡ false → told ≡ moves
+open_moves told true moves h e = absurd (cc)
+open_moves told false moves h e = h

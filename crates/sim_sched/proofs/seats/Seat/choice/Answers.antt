@@ -5,7 +5,7 @@ use Rattle.run_words.specs.Runs.{Step}
 use Rattle.sim_sched.specs.declared.seats.Choice.{Choice}
 use Rattle.sim_sched.proofs.SeatFacts.{open_moves}
 use Rattle.sim_sched.specs.Seats.{seen, seat_steps, choice_after, IsChosen, IsPossible}
-use Rattle.sim_sched.proofs.Picking.{chosen_copy, event_choice, chosen_event}
+use Rattle.sim_sched.proofs.Picking.{chosen_copy, event_choice, choice_is, chosen_event}
 use Rattle.sim_sched.proofs.seats.Seat.choice.Goals as goal
 
 pub returns-then-number-len : goal.returns-then-number-len
@@ -18,15 +18,12 @@ returns-then-number-len g c =
 pub returns : goal.returns
 returns g c =
     let s = seen g.P.Party.made g.P.Party.journal g.P.Party.shut c.args.self.now in
-    let b = c.moves-batch.ensures ∙ open_moves _ _ c.requires.open in
-    let e = c.moves-emit.ensures ∙ open_moves _ _ c.requires.open in
-    let x = c.moves-execute.ensures ∙ open_moves _ _ c.requires.open in
-    let n : c.len-2.result ≡ length c.args.self.now.way.items = omega arith in
+    let n : c.args.number - c.len-2.result ≡ c.args.number - length s.way = omega arith in
     let q : c.choice_by.result ≡ event_choice s (c.args.number - length s.way) =
-    c.choice_by.ensures ∙ ap (λ v. choice_after v c.moves-emit.result c.moves-execute.result (c.args.number - c.len-2.result)) b
-    ∙ ap (λ v. choice_after (moves s.maker s.journal Mover.Batch) v c.moves-execute.result (c.args.number - c.len-2.result)) e
-    ∙ ap (λ v. choice_after (moves s.maker s.journal Mover.Batch) (moves s.maker s.journal Mover.Emit) v (c.args.number - c.len-2.result)) x
-    ∙ ap (λ k. event_choice s (c.args.number - k)) n in
+    c.choice_by.ensures
+    ∙ choice_is s c.moves-batch.result c.moves-emit.result c.moves-execute.result (c.args.number - c.len-2.result) (c.args.number - length s.way)
+    (open_moves _ _ _ c.moves-batch.ensures c.requires.open) (open_moves _ _ _ c.moves-emit.ensures c.requires.open)
+    (open_moves _ _ _ c.moves-execute.ensures c.requires.open) n in
     let late : length s.way ≤ c.args.number = omega arith in
     record {
       possible = subst (λ (v : Choice). IsPossible s v) (sym q)
