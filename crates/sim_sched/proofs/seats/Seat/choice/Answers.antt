@@ -1,10 +1,9 @@
-use Rattle.std.proofs.Common.{◌≡◌, ◌≤◌, ◌-◌, sym, ap, subst, ◌∙◌, length, arith, get_or}
+use Rattle.std.proofs.Common.{◌≡◌, ◌≤◌, ◌-◌, sym, subst, ◌∙◌, length, arith, get_or}
 use Rattle.run_words.specs.declared.movers.Mover.{Mover}
-use Rattle.run_words.specs.Journal.{moves}
 use Rattle.run_words.specs.Runs.{Step}
 use Rattle.sim_sched.specs.declared.seats.Choice.{Choice}
 use Rattle.sim_sched.proofs.SeatFacts.{open_moves}
-use Rattle.sim_sched.specs.Seats.{seen, seat_steps, choice_after, IsChosen, IsPossible}
+use Rattle.sim_sched.specs.Seats.{seen, seat_steps, IsChosen, IsPossible}
 use Rattle.sim_sched.proofs.Picking.{chosen_copy, event_choice, choice_is, chosen_event}
 use Rattle.sim_sched.proofs.seats.Seat.choice.Goals as goal
 
