@@ -1,5 +1,5 @@
 -- The rows of the ring: where a key stands, and that they are the flat list of keys, cut.
-use Rattle.std.proofs.Common.{◌≡◌, ℕ, zero, suc, ◌+◌, ◌-◌, ◌<◌, ◌≤◌, Bool, true, false, cond, nat_le, List, [], ◌∷◌, ◌++◌, map, length, take, drop, sum, Option, Some, None, inl, inr, refl, sym, ap, subst, ◌∙◌, arith, length-append}
+use Rattle.std.proofs.Common.{◌≡◌, ℕ, zero, suc, ◌+◌, ◌-◌, ◌<◌, ◌≤◌, Bool, true, false, cond, nat_le, List, [], ◌∷◌, ◌++◌, map, length, take, drop, sum, Some, None, inl, inr, refl, sym, ap, subst, ◌∙◌, arith, length-append}
 use Rattle.std.specs.Prelude.{◌==◌, IfOk, Result, Ok, Err}
 use Rattle.std.specs.List.{range_with_len, list_all, slice_get, fold}
 use Rattle.std.proofs.lemmas.List.FromFn.{length-map-range_with_len}
@@ -16,7 +16,7 @@ use Rattle.fab_rules.specs.Lists.{In}
 use Rattle.fab_rules.proofs.Lists.{in_append_cases, of_map, of_range_with_len}
 use Rattle.bft_verify.specs.Rows.{rows}
 use Rattle.bft_verify.specs.Ring.{Ring, key_among, key_of, is_low, is_fabric_key}
-use Rattle.script_keys.specs.Keys.{height_of, public_of, members_of, replicas_from, replicas_of, signer_of, signers_of, key_of as key_for, client, client_keys_of}
+use Rattle.script_keys.specs.Keys.{public_of, members_of, replicas_from, replicas_of, signer_of, signers_of, key_of as key_for, client, client_keys_of}
 use Rattle.script_keys.specs.Rings.{rows_from, ring_of}
 use Rattle.script_keys.proofs.Listing.{map_twice, map_both, all_mapped, counted_at}
 

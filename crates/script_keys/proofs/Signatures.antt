@@ -1,5 +1,5 @@
 -- A signature of a leaf is a list of bytes, and has a place in a message.
-use Rattle.std.proofs.Common.{◌≡◌, ℕ, zero, suc, ◌+◌, ◌*◌, ◌-◌, ◌<◌, Bool, true, false, cond, nat_le, List, [], ◌∷◌, ◌++◌, length, refl, sym, ap, subst, ◌∙◌, arith}
+use Rattle.std.proofs.Common.{◌≡◌, ℕ, zero, suc, ◌+◌, ◌*◌, ◌-◌, ◌<◌, Bool, true, false, cond, nat_le, List, ◌++◌, length, refl, ap, ◌∙◌}
 use Rattle.std.specs.Prelude.{◌==◌}
 use Rattle.std.specs.Int.{w32, to_be_bytes}
 use Rattle.fab_base.specs.Fields.{are_bytes}
@@ -25,7 +25,7 @@ use Rattle.lms_tree.specs.Tree.{leaf_node, inner_node, node, path_node, path, si
 use Rattle.lms_tree.specs.Signatures.{leaf_randomizer, leaf_signature, tree_signature_len}
 use Rattle.lms_tree.specs.Verdict.{Valid}
 use Rattle.lms_tree.proofs.SignerLemmas.{leaf_signature_valid}
-use Rattle.script_keys.specs.Keys.{height_of, key_height, key_of, leaves_of, signature_of}
+use Rattle.script_keys.specs.Keys.{key_height, key_of, leaves_of, signature_of}
 
 joined_are : (y : ℕ → List ℕ) (n : ℕ) → ((i : ℕ) → are_bytes (y i) ≡ true) → are_bytes (joined y n) ≡ true
 unfolding joined

@@ -1,9 +1,9 @@
 -- Each copy of a request is sound for whoever is made with the script's members and keys.
-use Rattle.std.proofs.Common.{◌≡◌, ℕ, ◌+◌, ◌-◌, ◌*◌, ◌<◌, ◌≤◌, Bool, true, false, cond, ◌&&◌, nat_lt, List, [], ◌∷◌, ◌++◌, map, length, Option, Some, None, Result, Ok, Err, inl, inr, refl, sym, ap, subst, ◌∙◌, arith}
+use Rattle.std.proofs.Common.{◌≡◌, ℕ, ◌+◌, ◌-◌, ◌<◌, Bool, true, false, cond, ◌&&◌, nat_lt, List, [], ◌∷◌, ◌++◌, map, length, Option, Some, Ok, Err, inl, inr, refl, sym, ap, subst, ◌∙◌, arith}
 use Rattle.std.specs.Int.{w16, w32, to_be_bytes}
 use Rattle.fab_base.specs.Fields.{are_bytes, bytes_fit, op_fits}
 use Rattle.fab_base.specs.Limits.{Roster}
-use Rattle.fab_base.specs.declared.limits.TheConstants.{LONGEST_KEY, LONGEST_VALUE, LONGEST_SIGNATURE}
+use Rattle.fab_base.specs.declared.limits.TheConstants.{LONGEST_KEY, LONGEST_VALUE}
 use Rattle.fab_base.specs.declared.ids.ReplicaId.{ReplicaId}
 use Rattle.fab_base.specs.declared.ids.Who.{Who}
 use Rattle.fab_base.specs.declared.requests.Op.{Op}
@@ -15,16 +15,15 @@ use Rattle.fab_base.proofs.Tests.{and_left, and_right, and_both, is_below}
 use Rattle.fab_base.proofs.Tests as tests
 use Rattle.fab_rules.specs.declared.misfits.Misfit.{Misfit}
 use Rattle.fab_rules.specs.Lists.{In, first_of}
-use Rattle.fab_rules.specs.Format.{is_u8, is_u32, signature_fits, request_fits, fits}
-use Rattle.fab_rules.specs.Shape.{IsShaped, misfits, unless}
+use Rattle.fab_rules.specs.Format.{is_u8, is_u32, signature_fits, request_fits}
+use Rattle.fab_rules.specs.Shape.{unless}
 use Rattle.fab_rules.specs.Spelling.{short_bytes, signed, op_bytes, request_body, content_of, spelling_of}
-use Rattle.fab_rules.specs.Statements.{signer_of, parts_of}
+use Rattle.fab_rules.specs.Statements.{signer_of}
 use Rattle.fab_rules.proofs.Lengths.{request_is_spelled}
 use Rattle.fab_rules.proofs.Lists.{in_append_cases, of_map}
 use Rattle.fab_codec.specs.declared.faults.CodeFault.{CodeFault}
 use Rattle.fault_script.specs.declared.scripts.Script.{Script}
 use Rattle.fault_script.specs.declared.scripts.Wish.{Wish}
-use Rattle.fault_script.specs.Scripts.{keeps_limits}
 use Rattle.msg_read.specs.Reading.{reading_of}
 use Rattle.msg_read.proofs.Whole.{is_read}
 use Rattle.lms_tree.specs.Verdict.{Valid}
@@ -32,16 +31,16 @@ use Rattle.bft_verify.specs.declared.refusals.Refusal.{Refusal}
 use Rattle.bft_verify.specs.Answers.{judged_as_read}
 use Rattle.bft_verify.specs.Ring as rings
 use Rattle.bft_verify.specs.Ring.{Ring}
-use Rattle.bft_verify.specs.Sound.{IsSound, IsSignedBy, AreSigned, refusals, unless_refused}
+use Rattle.bft_verify.specs.Sound.{IsSound, IsSignedBy, refusals, unless_refused}
 use Rattle.bft_verify.proofs.Soundness.{sound_from_both}
 use Rattle.run_words.specs.Keyed.{is_same, of}
 use Rattle.run_words.specs.Journal.{Maker, reads}
-use Rattle.run_words.specs.Lawful.{IsKeyed, IsFromClient, IsRequest}
+use Rattle.run_words.specs.Lawful.{IsRequest}
 use Rattle.run_words.specs.declared.logs.Pending.{Pending}
-use Rattle.script_keys.specs.Keys.{public_of, leaves_of, signature_of}
+use Rattle.script_keys.specs.Keys.{public_of}
 use Rattle.script_keys.specs.Rings.{ring_of}
-use Rattle.script_keys.specs.Requests.{asked, asked_content, request_of, requests_of, pending_of, receivers_of, copies_to, copies_from, copies_of}
-use Rattle.script_keys.specs.Laws.{IsOfScript, KeyedLaw, RequestsLaw}
+use Rattle.script_keys.specs.Requests.{asked, asked_content, request_of, pending_of, receivers_of, copies_to, copies_from, copies_of}
+use Rattle.script_keys.specs.Laws.{KeyedLaw, RequestsLaw}
 use Rattle.script_keys.proofs.Rows.{replica_in_ring, client_in_ring}
 use Rattle.script_keys.proofs.Signatures.{is_valid, has_place}
 use Rattle.script_keys.proofs.Wishes.{IsAsked, asked_in, request_has_fields}

@@ -1,10 +1,10 @@
 -- What a script within its limits says of each of its requests.
-use Rattle.std.proofs.Common.{◌≡◌, ℕ, zero, suc, inl, inr, ◌+◌, ◌-◌, ◌<◌, ◌≤◌, Bool, true, ◌&&◌, nat_lt, nat_le, List, [], ◌∷◌, ◌++◌, map, length, get_or, take, refl, sym, ap, subst, ◌∙◌, arith}
-use Rattle.std.specs.List.{list_all, range_with_len}
+use Rattle.std.proofs.Common.{◌≡◌, ℕ, zero, suc, inl, inr, ◌+◌, ◌-◌, ◌<◌, ◌≤◌, true, nat_lt, nat_le, List, [], ◌∷◌, ◌++◌, map, length, get_or, take, refl, sym, ap, subst, ◌∙◌, arith}
+use Rattle.std.specs.List.{list_all}
 use Rattle.std.specs.Prelude.{slice_index}
 use Rattle.std.proofs.lemmas.List.{map_more}
 use Rattle.std.proofs.lemmas.List.FromFn.{get_or-map-range_with_len}
-use Rattle.fab_base.specs.Fields.{op_fits, bytes_fit}
+use Rattle.fab_base.specs.Fields.{op_fits}
 use Rattle.fab_base.specs.declared.limits.TheConstants.{MOST_CLIENTS, MOST_STAMPS, MOST_CLUSTERS}
 use Rattle.fab_base.specs.declared.ids.Who.{Who}
 use Rattle.fab_base.specs.declared.requests.Op.{Op}
@@ -19,7 +19,7 @@ use Rattle.fault_script.specs.Fields.{is_within}
 use Rattle.fault_script.specs.Scripts.{is_wish, are_sizes, are_homes, are_wishes, stamps_run, keeps_limits}
 use Rattle.lms_tree.specs.Keys.{TreeKey}
 use Rattle.script_keys.specs.Keys.{key_of, client, client_keys_of}
-use Rattle.script_keys.specs.Requests.{asked, request_by, request_of}
+use Rattle.script_keys.specs.Requests.{request_by, request_of}
 use Rattle.script_keys.proofs.Listing.{passes_at}
 use Rattle.script_keys.proofs.Signatures.{has_place}
 
@@ -37,6 +37,19 @@ few_clients script h =
 
 pub few_clusters : (script : Script) → keeps_limits script ≡ true → length script.sizes ≤ MOST_CLUSTERS
 few_clusters script h = at_most (length script.sizes) MOST_CLUSTERS (and_left _ _ (and_left (are_sizes script.sizes) _ h))
+
+-- the home of a client that takes part is one of the clusters, from 1
+pub home_declared : (script : Script) (number : ℕ) → keeps_limits script ≡ true → number < length script.homes
+    → slice_index script.homes number - 1 < length script.sizes
+home_declared script number h lt =
+    let clusters = length script.sizes in
+    let home = slice_index script.homes number in
+    let all = and_right (nat_le (length script.homes) MOST_CLIENTS) _
+    (and_left (are_homes clusters script.homes) _ (and_right (are_sizes script.sizes) _ h)) in
+    let here = passes_at (is_within 1 clusters) script.homes number home 0 all lt refl in
+    let low : 1 ≤ home = at_most 1 home (and_left (nat_le 1 home) (nat_le home clusters) here) in
+    let high : home ≤ clusters = at_most home clusters (and_right (nat_le 1 home) (nat_le home clusters) here) in
+    omega arith
 
 all_wishes : (script : Script) → keeps_limits script ≡ true → list_all (is_wish (length script.homes)) script.requests ≡ true
 all_wishes script h =

@@ -1,5 +1,5 @@
 use Rattle.std.proofs.Common.{◌≡◌, ◌++◌, drop}
-use Rattle.script_keys.specs.Requests.{copies_from, copies_of}
+use Rattle.script_keys.specs.Requests.{copies_from}
 use Rattle.script_keys.proofs.copies.request_copies.Given as goal
 
 -- what is left comes behind

@@ -1,8 +1,6 @@
-use Rattle.std.proofs.Common.{◌≡◌, ◌<◌, ◌++◌, ◌∷◌, [], List, length, ap, sym, ◌∙◌, subst, refl}
+use Rattle.std.proofs.Common.{◌<◌, ◌++◌, ◌∷◌, [], List, length, ap, sym, ◌∙◌, subst}
 use Rattle.std.proofs.lemmas.List.FromFn.{length-map-range_with_len}
-use Rattle.fab_base.specs.declared.ids.Who.{Who}
 use Rattle.fab_base.specs.declared.requests.Request.{Request}
-use Rattle.lms_tree.specs.declared.heights.Height.{Height}
 use Rattle.lms_tree.specs.Keys.{TreeKey}
 use Rattle.script_keys.specs.Keys.{key_of, client}
 use Rattle.script_keys.proofs.Wishes.{asked_at, key_at, one_more}

@@ -1,9 +1,4 @@
-use Rattle.std.proofs.Common.{◌≡◌, true, List, ℕ, length, sum, ap, sym, subst, ◌∙◌}
-use Rattle.std.specs.Prelude.{IfOk}
-use Rattle.bft_verify.specs.Ring.{Ring}
-use Rattle.lms_tree.specs.declared.public.Public.{Public}
-use Rattle.bft_verify.specs.Rows.{rows}
-use Rattle.script_keys.specs.Rings.{ring_of}
+use Rattle.std.proofs.Common.{length, sum, ap, sym, ◌∙◌}
 use Rattle.script_keys.proofs.Rows.{flat, counted, same_ring}
 use Rattle.script_keys.proofs.rings.script_ring.Goals as goal
 

@@ -1,0 +1,11 @@
+use Rattle.std.proofs.Common.{◌<◌, ◌-◌, List, ℕ, sym, subst, length, slice_index_or}
+use Rattle.script_keys.proofs.Wishes.{home_declared}
+use Rattle.script_keys.proofs.copies.receivers_of.Goals as goal
+
+pub bounds-as_slice-home : goal.bounds-as_slice-home
+bounds-as_slice-home c =
+    let script = c.args.script.now in
+    let number = c.args.request.now.client.number in
+    subst (λ (homes : List ℕ). slice_index_or homes number 0 - 1 < length c.as_slice-2.result.now) (sym c.as_slice.ensures)
+    (subst (λ (sizes : List ℕ). slice_index_or script.homes number 0 - 1 < length sizes) (sym c.as_slice-2.ensures)
+    (home_declared script number c.requires.limits c.requires.declared))
