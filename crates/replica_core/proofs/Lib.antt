@@ -1,2 +1,3 @@
 pub mod Outs
 pub mod Machines
+mod Within

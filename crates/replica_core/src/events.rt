@@ -18,6 +18,8 @@ pub enum Event {
     },
     /// The next round may be executed.
     Execute,
+    /// A Checkpoint may be due, or the low mark may move.
+    Checkpoint,
 }
 
 /// The events that may come at any time: of each it can be asked whether it would do anything.
@@ -31,4 +33,6 @@ pub enum Mover {
     Emit,
     /// [`Event::Execute`].
     Execute,
+    /// [`Event::Checkpoint`].
+    Checkpoint,
 }

@@ -1,5 +1,8 @@
 //! Execute: the next round, where all its certificates are kept.
-ghost use Rattle.std.specs.Prelude.{◌≡◌, length, IfOk, OnOk, IsTrue};
+ghost use Rattle.std.specs.Prelude.{◌≡◌, ◌≤◌, ◌+◌, length, IfOk, OnOk, IsTrue};
+ghost use Rattle.fab_base.specs.declared.limits.TheConstants.{GREATEST_NUMBER};
+ghost use Rattle.fab_base.specs.Limits.{IsWithinLimits};
+ghost use Rattle.fab_base.specs.Roster.{is_replica};
 ghost use Rattle.fab_rules.specs.Ledger.{lines_with};
 ghost use Rattle.fab_machine.specs.ReplicaState.{IsReplicaState};
 ghost use Rattle.fab_rules.specs.Format.{batch_fits};
@@ -59,11 +62,13 @@ fn note(
 }
 
 impl Parts {
-    /// After a round: local ordering is told of the own cluster's block, and the reply to its clients joins the outbox, where clients find
-    /// it. It has no receiver.
+    /// After a round: local ordering is told of the own cluster's block, and of the chain of the ledger, which a Checkpoint of the round bears;
+    /// and the reply to the block's clients joins the outbox, where clients find it. It has no receiver.
     fn note(&mut self, round: u64) -> Result<(), NoMemory>
-        requires { round ≡ self.old.state.rounds.executed }
-        ensures state { OnOk result (self.new ≡ with_state self.old (after_noting self.old.me self.old.state self.old.state.rounds (own_block self.old.roster self.old.me self.old.state.rounds))) }
+        requires executed { round ≡ self.old.state.rounds.executed }
+        requires next { round ≡ self.old.state.local.executed + 1 }
+        requires upto { round ≤ GREATEST_NUMBER }
+        ensures state { OnOk result (self.new ≡ with_state self.old (after_noting self.old.roster self.old.me self.old.state self.old.state.rounds (own_block self.old.roster self.old.me self.old.state.rounds))) }
         ensures same { IsSame self.old self.new }
     {
         let alloc = self.alloc();
@@ -72,7 +77,8 @@ impl Parts {
             && let Some(outcomes) = self.rounds.outcomes(round, cluster)
         {
             let item = note(alloc, self.me, block, outcomes, round)?;
-            self.order.served(round, &block.batch, outcomes)?;
+            self.order
+                .served(round, &block.batch, outcomes, self.rounds.chain())?;
             self.outbox.push_back(item)?;
         }
         Ok(())
@@ -80,7 +86,9 @@ impl Parts {
 
     /// Executes the next round, where no certificate is missing.
     pub(crate) fn execute(&mut self) -> Result<Answer, NoMemory>
-        requires { IsReplicaState self.old.roster self.old.me self.old.state }
+        requires limits { IsWithinLimits self.old.roster }
+        requires member { IsTrue (is_replica self.old.roster self.old.me) }
+        requires whole { IsReplicaState self.old.roster self.old.me self.old.state }
         ensures answer { IfOk result (λ answer. answer ≡ (execute_step self.old.roster self.old.me self.old.state (next_round (length self.old.roster.sizes) self.old.state.rounds)).answer) }
         ensures state { OnOk result (self.new ≡ with_state self.old (execute_step self.old.roster self.old.me self.old.state (next_round (length self.old.roster.sizes) self.old.state.rounds)).state) }
         ensures same { IsSame self.old self.new }

@@ -2,10 +2,11 @@
 //! replies.
 //!
 //! - [`core`] makes a [`Core`], which has heard nothing.
-//! - [`Core::step`] takes an [`Event`]: a message is heard, a batch may be proposed, an item is sent, a round may be executed. One
-//!   [`Answer`] comes out, and whatever the replica has to say waits in its outbox.
+//! - [`Core::step`] takes an [`Event`]: a message is heard, a batch may be proposed, an item is sent, a round may be executed, a
+//!   Checkpoint may be due. One [`Answer`] comes out, and whatever the replica has to say waits in its outbox.
 //! - [`Core::first`] shows the item that [`Event::Emit`] sends next, and [`Core::draft`] what is to be signed of it.
-//! - [`Core::moves`] asks beforehand whether an event would do anything, and [`Core::rounds`] shows certificates and the ledger.
+//! - [`Core::moves`] asks beforehand whether an event would do anything, [`Core::rounds`] shows certificates and the ledger, and
+//!   [`Core::low`] and [`Core::low_proof`] the low mark with its proof.
 //!
 //! It is a value: it knows no clock, no socket, no thread and no bytes. A message that is heard is a [`Shaped`](bft_msg::Shaped) one; whether its
 //! signatures hold was asked before.
@@ -16,9 +17,10 @@
 //!
 //! The modules: `replica` has the type and its calls, `making` makes one, `events` says what may happen. `parts` is what it is made of
 //! (`local_order`, `round_exec` and the outbox), `stepping` says which event goes where, and each event has a module of its own:
-//! `hearing`, `proposing`, `emitting`, `executing`. `taking` takes over what local ordering brings about.
+//! `hearing`, `proposing`, `emitting`, `executing`, `checkpointing`. `taking` takes over what local ordering brings about.
 #![tactic(auto)]
 
+mod checkpointing;
 mod emitting;
 mod events;
 mod executing;

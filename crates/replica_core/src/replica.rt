@@ -8,7 +8,7 @@ ghost use Rattle.replica_core.specs.Cores.{IsCore, with_state, IsShut, IsSame, I
 use crate::NoMemory;
 use crate::events::{Event, Mover};
 use crate::parts::Parts;
-use fab_base::{Answer, Bytes, Item};
+use fab_base::{Answer, Bytes, Item, StableVotes};
 use round_exec::Rounds;
 use std::marker::Model;
 
@@ -46,8 +46,11 @@ impl Core {
     /// - `Batch` and `Nudge` answer the first of these that holds: `Changing`, `NotPrimary`, `WindowFull`, `Proposed`, `Waiting`.
     /// - `Emit` answers `Sent` with the first item of the outbox, or `Nothing` exactly where none waits.
     /// - `Execute` answers `Executed` with the next round, or `NotYet` with the first cluster whose certificate of it is missing.
+    /// - `Checkpoint` (PBFT, section 4.3) answers the first of these that holds: `Voted`, with the first round for which a Checkpoint is due
+    ///   and none was put; `Moved`, with the new low mark, the greatest stable round above the old one that was executed; `NotDue`, with
+    ///   the next round for which a Checkpoint will be due. Where the mark moves, messages that were ahead or far are considered again.
     ///
-    /// `Heard`, `Proposed`, `Sent` and `Executed` make an entry in a journal; the others change nothing.
+    /// `Heard`, `Proposed`, `Sent`, `Executed`, `Voted` and `Moved` make an entry in a journal; the others change nothing.
     ///
     /// It fails only where memory is refused now or was before, and then the replica is shut. `Emit` takes no memory.
     ///
@@ -73,8 +76,8 @@ impl Core {
         Ok(answer)
     }
 
-    /// Whether the event would make an entry in a journal, want of memory aside: true exactly where it would answer `Proposed`, `Sent` or
-    /// `Executed`, and never of a replica that is shut. Takes no memory.
+    /// Whether the event would make an entry in a journal, want of memory aside: true exactly where it would answer `Proposed`, `Sent`,
+    /// `Executed`, `Voted` or `Moved`, and never of a replica that is shut. Takes no memory.
     pub fn moves(&self, mover: Mover) -> bool
         ensures { result ≡ moves_by self.now mover }
     {
@@ -86,6 +89,7 @@ impl Core {
             Mover::Nudge => self.parts.can_propose(true),
             Mover::Emit => self.parts.first().is_some(),
             Mover::Execute => self.parts.can_execute(),
+            Mover::Checkpoint => self.parts.can_checkpoint(),
         }
     }
 
@@ -112,6 +116,20 @@ impl Core {
             return Err(NoMemory);
         }
         self.parts.draft()
+    }
+
+    /// The low mark, at first 0: what lies up to this round is let go, since a quorum of the cluster's members agree on it. Takes no memory.
+    pub fn low(&self) -> u64
+        ensures { result ≡ self.now.state.local.slots.low }
+    {
+        self.parts.order.low()
+    }
+
+    /// The proof of the low mark: the first Checkpoints of a quorum for it, by the index of their signers. It is empty at 0. Takes no memory.
+    pub fn low_proof(&self) -> &StableVotes
+        ensures { result.now ≡ self.now.state.local.proof }
+    {
+        self.parts.order.low_proof()
     }
 
     /// The rounds of all clusters: certificates, and the ledger with what it came to.

@@ -33,6 +33,7 @@ impl Parts {
             Event::Nudge => self.propose(true),
             Event::Emit { sig } => Ok(self.emit(sig)),
             Event::Execute => self.execute(),
+            Event::Checkpoint => self.checkpoint(),
         }
     }
 }

@@ -1,5 +1,5 @@
 use Rattle.std.proofs.Common.{ap, ◌∙◌}
-use Rattle.fab_machine.specs.Step.{hear}
+use Rattle.fab_machine.specs.Hearing.{hear}
 use Rattle.fab_machine.specs.declared.outs.Out.{Out}
 use Rattle.fab_machine.proofs.Members.{is_member}
 use Rattle.fab_machine.proofs.States.{hear_state}
