@@ -7,3 +7,6 @@ mod Expected
 mod HeldBatches
 mod Refusing
 mod Stamping
+mod StableRounds
+mod LowMark
+mod HeardAgain

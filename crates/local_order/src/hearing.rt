@@ -2,7 +2,7 @@
 ghost use Rattle.std.specs.Prelude.{◌≡◌, IfOk, OnOk};
 ghost use Rattle.fab_rules.specs.Shape.{IsShaped};
 ghost use Rattle.fab_machine.specs.LocalState.{AreWaiting};
-ghost use Rattle.fab_machine.specs.Step.{hear};
+ghost use Rattle.fab_machine.specs.Hearing.{hear};
 ghost use Rattle.local_order.specs.Inside.{moved, IsSame};
 
 use crate::NoMemory;
@@ -26,8 +26,8 @@ impl State {
             Message::PrePrepare(proposal) => self.hear_proposal(proposal),
             Message::Prepare(vote) => self.hear_prepare(vote),
             Message::Commit(vote) => self.hear_commit(vote),
-            Message::Checkpoint(_)
-            | Message::ViewChange(_)
+            Message::Checkpoint(vote) => self.hear_checkpoint(vote),
+            Message::ViewChange(_)
             | Message::NewView(_)
             | Message::Drvc(_)
             | Message::Rvc(_)

@@ -7,7 +7,8 @@ ghost use Rattle.fab_machine.specs.State.{fresh_local};
 use crate::NoMemory;
 use crate::ordering::Order;
 use crate::state::State;
-use fab_base::{ClientId, MOST_CLIENTS, Members, PreparedCert, ReplicaId, Rows, Who};
+use checkpoint_core::stable_votes;
+use fab_base::{ClientId, MOST_CLIENTS, Members, PreparedCert, ReplicaId, Rows, StableVotes, Who};
 use pbft_slots::slots;
 use std::alloc::Global;
 
@@ -32,6 +33,7 @@ fn state(alloc: Global, members: Members, me: ReplicaId) -> Result<State, NoMemo
     let slots = slots(alloc, members.size(me.cluster), members.window())?;
     let prepared = no_certificates(alloc, members.window())?;
     let last = no_stamps(alloc, &members)?;
+    let checkpoints = stable_votes(alloc, members.size(me.cluster))?;
     Ok(State {
         members,
         me,
@@ -45,6 +47,9 @@ fn state(alloc: Global, members: Members, me: ReplicaId) -> Result<State, NoMemo
         last,
         executed: 0,
         kept: Rows::new(alloc),
+        checkpoints,
+        proof: StableVotes::new(alloc),
+        due: Vec::new(alloc),
     })
 }
 

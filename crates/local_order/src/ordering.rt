@@ -1,19 +1,20 @@
 //! The ordering in a cluster, and the calls on it.
-ghost use Rattle.std.specs.Prelude.{◌≡◌, ◌↔◌, false, length, nat_lt, IfOk, OnOk, OnErr, IsTrue};
+ghost use Rattle.std.specs.Prelude.{◌≡◌, ◌+◌, ◌≤◌, false, length, nat_lt, IfOk, OnOk, OnErr, IsTrue};
 ghost use Rattle.std.specs.List.{list_all};
-ghost use Rattle.std.specs.Result.{is_ok};
+ghost use Rattle.fab_base.specs.declared.limits.TheConstants.{GREATEST_NUMBER};
 ghost use Rattle.fab_rules.specs.Shape.{IsShaped};
+ghost use Rattle.fab_machine.specs.Checkpointing.{checkpoint};
+ghost use Rattle.fab_machine.specs.Hearing.{hear};
 ghost use Rattle.fab_machine.specs.LocalState.{IsLocalState};
 ghost use Rattle.fab_machine.specs.Proposing.{propose};
 ghost use Rattle.fab_machine.specs.Serving.{served};
-ghost use Rattle.fab_machine.specs.Step.{hear};
 ghost use Rattle.local_order.specs.Ordering.{with_local, IsShut, can_by};
 
 use crate::NoMemory;
 use crate::local::Local;
 use crate::state::State;
 use crate::trying::LocalTry;
-use fab_base::{Batch, Message, Outcomes};
+use fab_base::{Batch, Hash32, Message, Outcomes, StableVotes};
 use std::marker::Model;
 
 /// The ordering in the cluster of one replica (PBFT). Contracts see the members, the replica, its state, and whether it was shut: where
@@ -81,24 +82,61 @@ impl Order {
         told
     }
 
-    /// Is told of an executed round, with the batch of the own cluster and its outcomes, as many as requests: from then on a request waits
-    /// only where its stamp is above the last one of its client that took effect, and batches up to the round are no longer in work. The
-    /// clients of the batch are clients of the fabric. It takes no memory, and fails only where the order is shut.
-    pub fn served(&mut self, round: u64, batch: &Batch, outcomes: &Outcomes) -> Result<(), NoMemory>
-        requires { IsTrue (list_all (λ x. nat_lt x.client.number (length self.old.roster.homes)) batch.now) }
-        ensures state { OnOk result (self.new ≡ with_local self.old (served self.old.local round batch.now outcomes.now)) }
-        ensures live { IsTrue (is_ok result) ↔ (self.old.shut ≡ false) }
-        ensures err { OnErr result (self.new ≡ self.old) }
+    /// Is told of an executed round, the next one, with the batch of the own cluster, its outcomes, as many as requests, and the chain of
+    /// the ledger up to the round: from then on a request waits only where its stamp is above the last one of its client that took effect,
+    /// and batches up to the round are no longer in work. A Checkpoint of the round bears the chain; it is due where the round is a
+    /// multiple of the fabric's interval and above the low mark. The clients of the batch are clients of the fabric. It fails only where
+    /// memory is refused now or was before, and then the order is shut.
+    pub fn served(
+        &mut self,
+        round: u64,
+        batch: &Batch,
+        outcomes: &Outcomes,
+        digest: Hash32,
+    ) -> Result<(), NoMemory>
+        requires round { round ≡ self.old.local.executed + 1 }
+        requires upto { round ≤ GREATEST_NUMBER }
+        requires clients { IsTrue (list_all (λ x. nat_lt x.client.number (length self.old.roster.homes)) batch.now) }
+        ensures state { OnOk result (self.new ≡ with_local self.old (served self.old.roster self.old.local round batch.now outcomes.now digest)) }
+        ensures live { OnOk result (self.old.shut ≡ false) }
+        ensures err { OnErr result (IsShut self.old self.new) }
     {
         if self.shut {
             return Err(NoMemory);
         }
-        self.state.served(round, batch, outcomes);
-        Ok(())
+        let told = self.state.served(round, batch, outcomes, digest);
+        self.shut = told.is_err();
+        told
     }
 
-    /// Whether the call would do anything: true exactly where it would answer `Proposed`, want of memory aside, and never of an order that
-    /// is shut. Takes no memory.
+    /// Votes for a round or moves the low mark (PBFT, section 4.3). The answer is the first of these that holds:
+    ///
+    /// - `Voted`, with the first round for which a Checkpoint is due and none was put: one goes to the cluster.
+    /// - `Moved`, with the new low mark: it is the greatest round above the old one that was executed here and is stable, that is, of
+    ///   which a quorum of members say the same. What was held, counted and kept for slots and rounds up to it is let go, and the
+    ///   Checkpoints that prove the mark are kept. Then the messages that were ahead or far are considered again, in the order in which
+    ///   they came; what they bring about is in the list, and their answers aren't told.
+    /// - `NotDue`, with the next round above the executed ones that is a multiple of the fabric's interval: nothing changes.
+    ///
+    /// A round that is stable and wasn't executed here moves nothing. It fails only where memory is refused now or was before, and then the
+    /// order is shut.
+    pub fn checkpoint(&mut self) -> Result<Local, NoMemory>
+        ensures answer { IfOk result (λ told. told.answer ≡ (checkpoint self.old.roster self.old.me self.old.local).answer) }
+        ensures outs { IfOk result (λ told. told.outs ≡ (checkpoint self.old.roster self.old.me self.old.local).outs) }
+        ensures state { OnOk result (self.new ≡ with_local self.old (checkpoint self.old.roster self.old.me self.old.local).local) }
+        ensures live { OnOk result (self.old.shut ≡ false) }
+        ensures err { OnErr result (IsShut self.old self.new) }
+    {
+        if self.shut {
+            return Err(NoMemory);
+        }
+        let told = self.state.checkpoint();
+        self.shut = told.is_err();
+        told
+    }
+
+    /// Whether the call would do anything: true exactly where it would answer `Proposed`, `Voted` or `Moved`, want of memory aside, and
+    /// never of an order that is shut. Takes no memory.
     pub fn can(&self, what: LocalTry) -> bool
         ensures { result ≡ can_by self.now what }
     {
@@ -106,6 +144,7 @@ impl Order {
             LocalTry::Propose { nudged, known } => {
                 !self.shut && self.state.can_propose(nudged, known)
             }
+            LocalTry::Checkpoint => !self.shut && self.state.can_checkpoint(),
         }
     }
 
@@ -130,10 +169,18 @@ impl Order {
         self.state.next
     }
 
-    /// The low mark: the slots up to it are over.
+    /// The low mark, at first 0: the last round that this replica knows to be stable and executed. The slots up to it are over.
     pub fn low(&self) -> u64
         ensures { result ≡ self.now.local.slots.low }
     {
         self.state.slots.low()
+    }
+
+    /// The proof of the low mark (PBFT, section 4.3): the first Checkpoints of a quorum, by the index of their signers, with which the
+    /// mark moved. It is empty at 0.
+    pub fn low_proof(&self) -> &StableVotes
+        ensures { result.now ≡ self.now.local.proof }
+    {
+        &self.state.proof
     }
 }

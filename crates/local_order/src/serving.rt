@@ -1,23 +1,48 @@
-//! What local ordering is told of an executed round: which requests of its clients took effect.
-ghost use Rattle.std.specs.Prelude.{◌≡◌, ◌<◌, length, nat_lt, slice_index, IsTrue};
+//! What local ordering is told of an executed round: which requests of its clients took effect, and what a Checkpoint of it bears.
+ghost use Rattle.std.specs.Prelude.{◌≡◌, ◌<◌, ◌≤◌, ◌++◌, length, nat_lt, slice_index, OnOk, IsTrue};
 ghost use Rattle.std.specs.List.{list_all};
-ghost use Rattle.fab_machine.specs.Serving.{stamps_by, stamps_after, still_waiting, still_proposed, served};
-ghost use Rattle.local_order.specs.Inside.{moved};
+ghost use Rattle.fab_base.specs.declared.limits.TheConstants.{GREATEST_NUMBER};
+ghost use Rattle.fab_machine.specs.Serving.{stamps_by, stamps_after, still_waiting, still_proposed, due_by, served};
+ghost use Rattle.local_order.specs.Inside.{moved, IsSame};
 
-use crate::state::{Proposed, State};
-use fab_base::{Batch, ClientId, Outcome, Outcomes, Request};
+use crate::NoMemory;
+use crate::state::{Due, Proposed, State};
+use fab_base::{Batch, ClientId, Hash32, Outcome, Outcomes, Request};
 
 impl State {
-    /// Notes an executed round with the batch of the own cluster and its outcomes, as many as requests. Requests that took effect, and
-    /// those that can't any more, no longer wait; batches up to the round are no longer in work. Takes no memory.
-    pub(crate) fn served(&mut self, round: u64, batch: &Batch, outcomes: &Outcomes)
-        requires { IsTrue (list_all (λ x. nat_lt x.client.number (length self.old.roster.homes)) batch.now) }
-        ensures { self.new ≡ moved self.old (served self.old.local round batch.now outcomes.now) }
+    /// Notes an executed round with the batch of the own cluster and its outcomes, as many as requests, and what a Checkpoint of it bears.
+    /// Requests that took effect, and those that can't any more, no longer wait; batches up to the round are no longer in work. Where
+    /// memory is refused, nothing is noted.
+    pub(crate) fn served(
+        &mut self,
+        round: u64,
+        batch: &Batch,
+        outcomes: &Outcomes,
+        digest: Hash32,
+    ) -> Result<(), NoMemory>
+        requires upto { round ≤ GREATEST_NUMBER }
+        requires clients { IsTrue (list_all (λ x. nat_lt x.client.number (length self.old.roster.homes)) batch.now) }
+        ensures state { OnOk result (self.new ≡ moved self.old (served self.old.roster self.old.local round batch.now outcomes.now digest)) }
+        ensures same { IsSame self.old self.new }
     {
+        self.note_due(round, digest)?;
         note_stamps(&mut self.last, batch.as_slice(), outcomes.as_slice());
         leave_settled(&mut self.waiting, &self.last);
         leave_executed(&mut self.proposed, round);
         self.executed = round;
+        Ok(())
+    }
+
+    /// A Checkpoint of the round is due, where the round is one of each so many and above the low mark.
+    fn note_due(&mut self, round: u64, digest: Hash32) -> Result<(), NoMemory>
+        ensures state { OnOk result (self.new ≡ moved self.old
+            (record self.old.local { due = self.old.local.due ++ due_by self.old.roster.interval self.old.local.slots.low round digest })) }
+        ensures same { IsSame self.old self.new }
+    {
+        if self.slots.low() < round && round % u64::from(self.members.interval()) == 0 {
+            self.due.push(Due { round, digest })?;
+        }
+        Ok(())
     }
 }
 

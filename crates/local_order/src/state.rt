@@ -1,5 +1,8 @@
 //! What a replica remembers of the ordering in its cluster.
-use fab_base::{Batch, Members, Message, PreparedCert, ReplicaId, Request, Rows, Vote};
+use checkpoint_core::StableBook;
+use fab_base::{
+    Batch, Hash32, Members, Message, PreparedCert, ReplicaId, Request, Rows, StableVotes, Vote,
+};
 use pbft_slots::Slots;
 use std::alloc::Global;
 use std::marker::Model;
@@ -17,6 +20,23 @@ impl Model for Proposed {
     ghost Value = { Proposed };
 
     ghost view = { λ p. record { slot = p.slot; batch = p.batch } };
+}
+
+/// A round for which a Checkpoint is due, and the digest that it bears.
+#[derive(Clone, Copy, Debug, Drop)]
+pub(crate) struct Due {
+    pub(crate) round: u64,
+    pub(crate) digest: Hash32,
+}
+
+impl Model for Due {
+    ghost use Rattle.fab_machine.specs.State.{Due};
+
+    ghost Value = { Due };
+
+    ghost view = { λ d. record { round = d.round; digest = d.digest } };
+
+    ghost inverse = { λ d. record { round = d.round; digest = d.digest } };
 }
 
 /// What a replica remembers of the ordering in its cluster. A contract sees the members, the replica and its state as the machine of a
@@ -41,6 +61,11 @@ pub(crate) struct State {
     pub(crate) executed: u64,
     /// Proposals and votes that were ahead or far, in the order in which they came.
     pub(crate) kept: Rows<Message>,
+    /// The Checkpoints that count, above the low mark, and those of the quorum that moved it: none at 0.
+    pub(crate) checkpoints: StableBook,
+    pub(crate) proof: StableVotes,
+    /// The executed rounds above the low mark for which a Checkpoint is due and none was put, rising.
+    pub(crate) due: Vec<Due>,
 }
 
 impl Model for State {
@@ -62,6 +87,9 @@ impl Model for State {
         last = o.last.items;
         executed = o.executed;
         kept = o.kept;
+        checkpoints = o.checkpoints;
+        proof = o.proof;
+        due = o.due.items;
       };
     } };
 
@@ -79,6 +107,9 @@ impl Model for State {
         last = o.last.items;
         executed = o.executed;
         kept = o.kept;
+        checkpoints = o.checkpoints;
+        proof = o.proof;
+        due = o.due.items;
       };
     }) };
 }
