@@ -43,9 +43,9 @@ greatest_within test (suc n) from = go (greatest_within test n (from + 1)) (test
     go (inr h) false = inr (omega (arith, h.0), omega (arith, h.1))
 
 -- the mark moves up, and no further than to the last executed round
-pub mark_within : (l : Local) → greatest (stable_rounds l) ≢ 0 → (l.slots.low ≤ greatest (stable_rounds l)) × (greatest (stable_rounds l) ≤ l.executed)
-mark_within l h =
+pub mark_within : (l : Local) (low : ℕ) → low ≡ greatest (stable_rounds l) → low ≢ 0 → (l.slots.low ≤ low) × (low ≤ l.executed)
+mark_within l low is some =
     elim (greatest_within (λ round. is_some (stable l.checkpoints round)) (l.executed - l.slots.low) (l.slots.low + 1)) [
-      | inl e ↦ absurd (h e)
-      | inr k ↦ (omega (arith, k.0), omega (arith, k.0, k.1))
+      | inl e ↦ absurd (some (is ∙ e))
+      | inr k ↦ (omega (arith, is, k.0), omega (arith, is, k.0, k.1))
     ]

@@ -1,12 +1,12 @@
 //! Checkpoints and the low mark (PBFT, section 4.3).
-ghost use Rattle.std.specs.Prelude.{◌≡◌, ◌≤◌, ◌++◌, length, drop, replicate, None, IfOk, OnOk, IsTrue};
+ghost use Rattle.std.specs.Prelude.{[], ◌≡◌, ◌≤◌, ◌++◌, length, drop, replicate, None, IfOk, OnOk, IsTrue};
 ghost use Rattle.fab_base.specs.declared.limits.TheConstants.{GREATEST_NUMBER};
 ghost use Rattle.fab_base.specs.Roster.{is_replica};
 ghost use Rattle.fab_base.specs.declared.answers.Answer.{Answer};
 ghost use Rattle.fab_rules.specs.Lists.{In, greatest};
 ghost use Rattle.fab_rules.specs.Shape.{IsShaped};
 ghost use Rattle.checkpoint_core.specs.Checkpoints.{proof_of};
-ghost use Rattle.fab_machine.specs.LocalState.{AreWaiting};
+ghost use Rattle.fab_machine.specs.LocalState.{AreWaiting, IsLocalState};
 ghost use Rattle.fab_machine.specs.Voting.{unmoved};
 ghost use Rattle.fab_machine.specs.Hearing.{hear, hear_checkpoint};
 ghost use Rattle.fab_machine.specs.Checkpointing.{voted, stable_rounds, moved_places, after_move, heard_again, next_due, move_to, checkpoint};
@@ -44,8 +44,7 @@ impl State {
 
     /// Votes for the first round for which a Checkpoint is due, or else moves the low mark to the greatest stable round that was executed.
     pub(crate) fn checkpoint(&mut self) -> Result<Local, NoMemory>
-        requires waiting { AreWaiting self.old.roster self.old.me self.old.local.waiting }
-        requires kept { (m : Message) → In m self.old.local.kept → IsShaped self.old.roster m }
+        requires { IsLocalState self.old.roster self.old.me self.old.local }
         ensures answer { IfOk result (λ told. told.answer ≡ (checkpoint self.old.roster self.old.me self.old.local).answer) }
         ensures outs { IfOk result (λ told. told.outs ≡ (checkpoint self.old.roster self.old.me self.old.local).outs) }
         ensures state { OnOk result (self.new ≡ moved self.old (checkpoint self.old.roster self.old.me self.old.local).local) }
@@ -67,7 +66,7 @@ impl State {
         !self.due.is_empty() || self.greatest_stable() > 0
     }
 
-    /// A Checkpoint of the first round that is due, which is no longer due.
+    /// A Checkpoint of the first round that is due, which from now on isn't.
     fn vote_for(&mut self, due: Due) -> Result<Local, NoMemory>
         requires { 1 ≤ length self.old.local.due }
         ensures answer { IfOk result (λ told. told.answer ≡ (voted self.old.roster self.old.me self.old.local due (drop 1 self.old.local.due)).answer) }
@@ -106,8 +105,8 @@ impl State {
     /// Moves the low mark to the greatest of the stable rounds, if there is one.
     fn move_to(&mut self, low: u64) -> Result<Local, NoMemory>
         requires low { low ≡ greatest (stable_rounds self.old.local) }
-        requires waiting { AreWaiting self.old.roster self.old.me self.old.local.waiting }
-        requires kept { (m : Message) → In m self.old.local.kept → IsShaped self.old.roster m }
+        requires whole { IsLocalState self.old.roster self.old.me self.old.local }
+        requires none_due { self.old.local.due ≡ [] }
         ensures answer { IfOk result (λ told. told.answer ≡ (move_to self.old.roster self.old.me self.old.local low).answer) }
         ensures outs { IfOk result (λ told. told.outs ≡ (move_to self.old.roster self.old.me self.old.local low).outs) }
         ensures state { OnOk result (self.new ≡ moved self.old (move_to self.old.roster self.old.me self.old.local low).local) }
@@ -159,13 +158,15 @@ impl State {
     /// Hears these messages, one after another. Their answers aren't told.
     fn hear_again(&mut self, messages: Rows<Message>) -> Result<Outs, NoMemory>
         requires shaped { (m : Message) → In m messages → IsShaped self.old.roster m }
-        requires waiting { AreWaiting self.old.roster self.old.me self.old.local.waiting }
+        requires whole { IsLocalState self.old.roster self.old.me self.old.local }
         ensures outs { IfOk result (λ outs. (answer : Answer)
             → outs ≡ (heard_again self.old.roster self.old.me (unmoved self.old.local answer) messages).outs) }
         ensures state { OnOk result ((answer : Answer)
             → self.new ≡ moved self.old (heard_again self.old.roster self.old.me (unmoved self.old.local answer) messages).local) }
         ensures same { IsSame self.old self.new }
     {
+        // A replica that is a member of its cluster.
+        let _ = &self.me;
         let mut outs = Outs::new(self.alloc());
         for message in messages.into_vec() {
             self.hear_one(message, &mut outs)?;

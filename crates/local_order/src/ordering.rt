@@ -12,6 +12,7 @@ ghost use Rattle.local_order.specs.Ordering.{with_local, IsShut, can_by};
 
 use crate::NoMemory;
 use crate::local::Local;
+use crate::serving::in_field;
 use crate::state::State;
 use crate::trying::LocalTry;
 use fab_base::{Batch, Hash32, Message, Outcomes, StableVotes};
@@ -104,6 +105,7 @@ impl Order {
         if self.shut {
             return Err(NoMemory);
         }
+        in_field(&digest);
         let told = self.state.served(round, batch, outcomes, digest);
         self.shut = told.is_err();
         told

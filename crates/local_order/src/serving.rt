@@ -1,7 +1,9 @@
 //! What local ordering is told of an executed round: which requests of its clients took effect, and what a Checkpoint of it bears.
 ghost use Rattle.std.specs.Prelude.{◌≡◌, ◌<◌, ◌≤◌, ◌++◌, length, nat_lt, slice_index, OnOk, IsTrue};
 ghost use Rattle.std.specs.List.{list_all};
+ghost use Rattle.fab_base.specs.Fields.{are_bytes};
 ghost use Rattle.fab_base.specs.declared.limits.TheConstants.{GREATEST_NUMBER};
+ghost use Rattle.fab_rules.specs.Format.{digest_fits};
 ghost use Rattle.fab_machine.specs.Serving.{stamps_by, stamps_after, still_waiting, still_proposed, due_by, served};
 ghost use Rattle.local_order.specs.Inside.{moved, IsSame};
 
@@ -44,6 +46,20 @@ impl State {
         }
         Ok(())
     }
+}
+
+/// That a digest is in its field, as its type tells: it has 32 bytes.
+pub(crate) fn in_field(digest: &Hash32)
+    ensures { IsTrue (digest_fits digest.now) }
+{
+    are_bytes(&digest.bytes)
+}
+
+/// That each of some bytes is below 256, as their type tells.
+fn are_bytes(bytes: &[u8])
+    ensures { IsTrue (are_bytes bytes.now) }
+{
+    let _ = bytes;
 }
 
 /// The requests that took effect are their clients' last ones.

@@ -1,22 +1,25 @@
-use Rattle.std.proofs.Common.{◌≢◌, ◌≤◌, sym, subst, arith}
+use Rattle.std.proofs.Common.{sym, subst, arith}
 use Rattle.fab_base.specs.declared.answers.Answer.{Answer}
-use Rattle.local_order.specs.Inside.{IsInside}
+use Rattle.fab_machine.specs.LocalState.{IsLocalState}
+use Rattle.fab_machine.proofs.CheckpointStates.{after_move_state}
 use Rattle.local_order.proofs.StableRounds.{mark_within}
 use Rattle.local_order.proofs.LowMark.{moved_answer, moved_outs, moved_state}
 use Rattle.local_order.proofs.state.State.move_to.Goals as goal
 
-within : (c : goal.After-leave-arg-1) → (c.args.self.now.local.slots.low ≤ c.args.low) × (c.args.low ≤ c.args.self.now.local.executed)
-within c =
-    let l = c.args.self.now.local in
-    subst (λ n. (l.slots.low ≤ n) × (n ≤ l.executed)) (sym c.requires.low) (mark_within l (subst (λ n. n ≢ 0) c.requires.low c.if-low-eq0.false))
-
 pub leave-kept-requires-clause-above : goal.leave-kept-requires-clause-above
-leave-kept-requires-clause-above c = (within c).0
+leave-kept-requires-clause-above c = (mark_within c.args.self.now.local c.args.low c.requires.low c.if-low-eq0.false).0
 
 pub leave-kept-requires-clause-upto : goal.leave-kept-requires-clause-upto
 leave-kept-requires-clause-upto c =
-    let whole = subst IsInside c.self.view_is c.self.invariant in
-    omega (arith, (within c).1, whole.executed)
+    let upto = (mark_within c.args.self.now.local c.args.low c.requires.low c.if-low-eq0.false).1 in
+    omega (arith, upto, c.requires.whole.executed_fits)
+
+pub hear_again-requires-clause-whole : goal.hear_again-requires-clause-whole
+hear_again-requires-clause-whole c =
+    let o = c.args.self.now in
+    let up = (mark_within o.local c.args.low c.requires.low c.if-low-eq0.false).0 in
+    subst (λ m. IsLocalState m.roster m.me m.local) (sym c.leave-kept.ensures.state)
+    (after_move_state o.roster o.me o.local c.args.low c.requires.none_due up c.requires.whole)
 
 pub returns-clause-answer : goal.returns-clause-answer
 returns-clause-answer c =
