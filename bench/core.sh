@@ -7,8 +7,8 @@
 # 1. One replica of a cluster of ten hears all that there is to hear of 16 slots with batches of 8: 128 requests, 16 proposals, and the
 #    Prepares and Commits of all ten. A replica of another cluster hears the same, which is stray for it. Asserted: the first takes memory
 #    so many times more than the second that it may have made two copies of each of these messages, and no more.
-# 2. A cluster of ten orders and executes 64 requests, and then 128, in batches of 8. Asserted: an event of the second half costs within 5
-#    of 100 what one of the first half costs, so nothing is paid for the length of the journal.
+# 2. A cluster of ten orders and executes 64 requests, and then 128, in batches of 8, with a Checkpoint after each eighth round. Asserted: an
+#    event of the second half costs within 5 of 100 what one of the first half costs, so nothing is paid for the length of the journal.
 set -euo pipefail
 top=$(cd "$(dirname "${BASH_SOURCE[0]}")/.." && pwd)
 crate=$top/crates/core_cases
@@ -96,16 +96,17 @@ hearings 16 1.9 | count hearings "$inside"
 echo "a hearing: $(($(instructions hearings) / heard)) instructions"
 
 # 2. Each round: ten hear eight requests, a proposal, ten Prepares and ten Commits; the primary proposes; it sends a proposal, and each a
-# Prepare, a Commit and a note; each executes.
+# Prepare, a Commit and a note; each executes. For a Checkpoint each says one, sends it, hears ten and moves its low mark.
 for many in 8 16; do
   rounds "$many" | count "rounds$many" "$inside"
   events=$(awk '/^settle first => [0-9]+ events$/ { sum += $4 } END { print sum + 0 }' "$work/rounds$many.answers")
-  check "$events events in $many rounds, of 332 in each" "$([ "$events" = $((332 * many)) ] && echo 1 || echo 0)"
+  check "$events events in $many rounds, of 332 in each and 130 for each Checkpoint" \
+    "$([ "$events" = $((332 * many + 130 * (many / 8))) ] && echo 1 || echo 0)"
 done
 half=$(instructions rounds8)
 whole=$(instructions rounds16)
 growth=$(awk "BEGIN { printf \"%.2f\", $half ? 100 * ($whole - 2 * $half) / $half : 100 }")
-check "an event: $((half / (8 * 332))) instructions in the first half, and $growth of 100 more in the second" \
+check "an event: $((half / (8 * 332 + 130))) instructions in the first half, and $growth of 100 more in the second" \
   "$(awk "BEGIN { print ($half > 0 && $growth <= 5) }")"
 
 finish

@@ -1,6 +1,6 @@
 //! What a replica answers, as words.
-use crate::words::{Text, shown};
-use fab_base::{Hash32, Item, Message, Take};
+use crate::words::{Text, joined, shown};
+use fab_base::{Hash32, Item, Message, ReplicaId, StableVotes, Take};
 use replica_core::Answer;
 use std::alloc::Global;
 
@@ -39,9 +39,20 @@ pub(crate) fn item_words(alloc: Global, item: &Item) -> Text {
         Message::PrePrepare(x) => ("PrePrepare", x.slot),
         Message::Prepare(x) => ("Prepare", x.slot),
         Message::Commit(x) => ("Commit", x.slot),
+        Message::Checkpoint(x) => ("Checkpoint", x.round),
         Message::ReplyNote(x) => ("ReplyNote", x.round),
         _ => ("Other", 0),
     };
     let receivers = item.to.len();
     Ok(format!(in alloc; "{kind} {number} to {receivers}")?)
+}
+
+/// The signers of a proof, in its order, or `none`.
+pub(crate) fn signers_words(alloc: Global, proof: &StableVotes) -> Text {
+    let mut words = Vec::new(alloc);
+    for vote in proof.as_slice() {
+        let ReplicaId { cluster, index } = vote.signer;
+        words.push(format!(in alloc; "{cluster}.{index}")?)?;
+    }
+    joined(alloc, &words, " ")
 }

@@ -1,12 +1,12 @@
 //! The cases, one after another.
-use crate::answers::{answer_words, item_words};
+use crate::answers::{answer_words, item_words, signers_words};
 use crate::declared::Declared;
 use crate::fabric::Fabric;
 use crate::looking;
 use crate::messages::message;
 use crate::node::{Node, Seat, Turn};
 use crate::rounds::Alone;
-use crate::words::{Text, Unanswered, at, plain, replica};
+use crate::words::{Text, Unanswered, at, plain, replica, shown};
 use fab_base::{NoMemory, ReplicaId};
 use replica_core::Mover;
 use std::alloc::Global;
@@ -102,7 +102,7 @@ fn of_replica(alloc: Global, fabric: &mut Fabric, declared: &Declared, line: &st
     let id = replica(at(line, 1))?;
     match at(line, 0) {
         "hear" => {
-            let message = message(alloc, declared, line)?;
+            let message = message(alloc, fabric, declared, line)?;
             answer_words(alloc, &fabric.node_mut(id)?.seat.hear(message)?)
         }
         "next" => mail(alloc, fabric, id, Turn::Oldest),
@@ -111,7 +111,8 @@ fn of_replica(alloc: Global, fabric: &mut Fabric, declared: &Declared, line: &st
         "nudge" => act(alloc, fabric, id, Mover::Nudge),
         "emit" => act(alloc, fabric, id, Mover::Emit),
         "execute" => act(alloc, fabric, id, Mover::Execute),
-        word => waiting(alloc, fabric.node(id)?, word),
+        "checkpoint" => act(alloc, fabric, id, Mover::Checkpoint),
+        word => asked(alloc, fabric.node(id)?, word),
     }
 }
 
@@ -130,8 +131,8 @@ fn act(alloc: Global, fabric: &mut Fabric, id: ReplicaId, mover: Mover) -> Text 
     answer_words(alloc, &answer)
 }
 
-/// What waits at it.
-fn waiting(alloc: Global, node: &Node, word: &str) -> Text {
+/// What it is asked: what waits at it, what would move it, and what its low mark is.
+fn asked(alloc: Global, node: &Node, word: &str) -> Text {
     match word {
         "first" => match node.seat.first() {
             Some(item) => item_words(alloc, item),
@@ -142,6 +143,8 @@ fn waiting(alloc: Global, node: &Node, word: &str) -> Text {
             None => plain(alloc, "None"),
         },
         "moves" => moves(alloc, &node.seat),
+        "low" => shown(alloc, &node.seat.low()),
+        "proof" => signers_words(alloc, node.seat.low_proof()),
         _ => Err(Unanswered::Unreadable),
     }
 }
@@ -150,5 +153,8 @@ fn waiting(alloc: Global, node: &Node, word: &str) -> Text {
 fn moves(alloc: Global, seat: &Seat) -> Text {
     let (batch, nudge) = (seat.would(Mover::Batch), seat.would(Mover::Nudge));
     let (emit, execute) = (seat.would(Mover::Emit), seat.would(Mover::Execute));
-    Ok(format!(in alloc; "batch {batch}, nudge {nudge}, emit {emit}, execute {execute}")?)
+    let checkpoint = seat.would(Mover::Checkpoint);
+    Ok(format!(in alloc;
+        "batch {batch}, nudge {nudge}, emit {emit}, execute {execute}, checkpoint {checkpoint}"
+    )?)
 }

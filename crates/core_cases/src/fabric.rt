@@ -10,6 +10,9 @@ use replica_core::Answer;
 use std::alloc::Global;
 use std::collections::VecDeque;
 
+/// How often there is a checkpoint, where no other interval is given and the window is as wide.
+const USUAL_INTERVAL: u8 = 8;
+
 /// After so many passes over the replicas a fabric isn't waited for any more.
 const MOST_PASSES: u32 = 100_000;
 
@@ -30,10 +33,11 @@ impl Fabric {
         let homes = smalls(alloc, at(line, 2))?;
         let window = small(at(line, 3))?;
         let batch = small(at(line, 4))?;
-        if !is_within_limits(&sizes, &homes, window, batch) {
+        let interval = interval(at(line, 5), window)?;
+        if !is_within_limits(&sizes, &homes, window, batch, interval) {
             return Err(Unanswered::Unreadable);
         }
-        let members = members(alloc, &sizes, &homes, window, 1, batch)?;
+        let members = members(alloc, &sizes, &homes, window, interval, batch)?;
         Fabric::of(alloc, members)
     }
 
@@ -158,5 +162,14 @@ impl Fabric {
             Some(events) => Ok(format!(in self.alloc; "{events} events")?),
             None => plain(self.alloc, "not settled"),
         }
+    }
+}
+
+/// The interval of checkpoints that a word names. Without one it is the usual one, or the window where that is less.
+fn interval(word: &str, window: u8) -> Result<u8, Unanswered> {
+    if word.is_empty() {
+        Ok(window.min(USUAL_INTERVAL))
+    } else {
+        small(word)
     }
 }

@@ -6,9 +6,15 @@ use fab_base::{
     MOST_CLIENTS, MOST_CLUSTERS, MOST_MEMBERS, MOST_REPLICAS, MOST_REQUESTS, MOST_SLOTS,
 };
 
-/// Whether a fabric may have these clusters, clients and settings, with a checkpoint each round.
-pub(crate) fn is_within_limits(sizes: &[u8], homes: &[u8], window: u8, batch: u8) -> bool
-    ensures { IsTrue result → IsWithinLimits (record { sizes = sizes.now; homes = homes.now; window = window; interval = 1; batch = batch }) }
+/// Whether a fabric may have these clusters, clients and settings.
+pub(crate) fn is_within_limits(
+    sizes: &[u8],
+    homes: &[u8],
+    window: u8,
+    batch: u8,
+    interval: u8,
+) -> bool
+    ensures { IsTrue result → IsWithinLimits (record { sizes = sizes.now; homes = homes.now; window = window; interval = interval; batch = batch }) }
 {
     sizes.len() <= MOST_CLUSTERS as usize
         && sizes.iter().all(|size| 1 <= *size && *size <= MOST_MEMBERS)
@@ -19,6 +25,8 @@ pub(crate) fn is_within_limits(sizes: &[u8], homes: &[u8], window: u8, batch: u8
             .all(|home| 1 <= *home && *home as usize <= sizes.len())
         && 1 <= window
         && window <= MOST_SLOTS
+        && 1 <= interval
+        && interval <= window
         && 1 <= batch
         && batch <= MOST_REQUESTS
 }

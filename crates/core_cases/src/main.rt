@@ -6,21 +6,25 @@
 //! replicas together come to one ledger.
 //!
 //! A replica is named as `1.0`, by its cluster and its index. Each has mail: copies of the items that were sent to it. A request is named
-//! as `0.1`, by its client and its stamp, and has no signature. A batch is its requests with commas between them, or `-` for none.
+//! as `0.1`, by its client and its stamp, and has no signature. A batch is its requests with commas between them, or `-` for none. What a
+//! Checkpoint bears is named by a replica, as the chain that this one has after the round, or by its first four bytes in hex, with zeros
+//! behind them.
 //!
 //! | Case | What happens | Answer |
 //! |---|---|---|
-//! | `fabric SIZES HOMES WINDOW BATCH` | a fabric begins, with replicas that heard nothing; numbers stand with commas, `-` for none | how many replicas it has |
+//! | `fabric SIZES HOMES WINDOW BATCH INTERVAL` | a fabric begins, with replicas that heard nothing; numbers stand with commas, `-` for none; without an interval it is 8, or the window where that is less | how many replicas it has |
 //! | `request CLIENT STAMP OPERATION` | a request is declared, as `put KEY VALUE`, `get KEY`, `cut KEY` or `swap KEY EXPECTED FRESH` | `declared` |
 //! | `send REQUEST` | a copy goes to each replica of the client's home | to how many |
 //! | `hear ID request REQUEST` | the replica hears the request | its answer |
 //! | `hear ID preprepare SIGNER VIEW SLOT BATCH` | it hears that proposal; so for `prepare` and `commit` | its answer |
+//! | `hear ID checkpoint SIGNER ROUND DIGEST` | it hears that Checkpoint | its answer |
 //! | `hear ID fetch ASKER CLUSTER ROUND` | it hears that question | its answer |
 //! | `next ID`, `last ID` | it hears the oldest or the newest of its mail | its answer, or `None` |
-//! | `batch ID`, `nudge ID`, `emit ID`, `execute ID` | the event; what is emitted goes to its receivers' mail | its answer |
+//! | `batch ID`, `nudge ID`, `emit ID`, `execute ID`, `checkpoint ID` | the event; what is emitted goes to its receivers' mail | its answer |
 //! | `settle first`, `settle last` | see below | the number of events |
 //! | `first ID`, `draft ID` | – | the first item that waits; how many bytes of it are to be signed |
 //! | `moves ID` | – | which events would make an entry in a journal |
+//! | `low ID`, `proof ID` | – | the low mark; the signers of the Checkpoints that prove it |
 //! | `ledger ID`, `chain ID`, `missing ID` | – | the blocks, each as `ROUND.CLUSTER:BATCH`; the chain in hex; the first cluster without a certificate |
 //! | `after ID ROUND` | – | the chain after that round |
 //! | `outcomes ID ROUND CLUSTER` | – | what the requests of that block came to |
@@ -30,8 +34,8 @@
 //!
 //! Answers are written as Rust writes them; of a digest the first four bytes, and of an item the kind, the slot or the round, and the number
 //! of receivers. A message with a misfit isn't heard, and the answer is the misfit. `settle` goes over all replicas by rising id, again
-//! and again: each hears the oldest (or newest) of its mail, or else takes the first that would make an entry of Batch, Emit and Execute.
-//! Where no replica had an event each is nudged, and where none proposed the fabric is settled.
+//! and again: each hears the oldest (or newest) of its mail, or else takes the first that would make an entry of Batch, Emit, Execute and
+//! Checkpoint. Where no replica had an event each is nudged, and where none proposed the fabric is settled.
 //!
 //! A line that is none of these, or breaks a condition of the call, is answered `unreadable`.
 #![tactic(auto)]

@@ -4,7 +4,7 @@ ghost use Rattle.fab_base.specs.Roster.{is_replica};
 
 use crate::words::Unanswered;
 use bft_msg::{Shaped, fits, shape};
-use fab_base::{Bytes, Duplicate, Members, Message, NoMemory, ReplicaId};
+use fab_base::{Bytes, Duplicate, Members, Message, NoMemory, ReplicaId, StableVotes};
 use replica_core::{Answer, Core, Event, Item, Mover, core};
 use round_exec::Rounds;
 use std::alloc::Global;
@@ -68,6 +68,7 @@ impl Seat {
                 sig: Bytes::new(self.alloc),
             },
             Mover::Execute => Event::Execute,
+            Mover::Checkpoint => Event::Checkpoint,
         };
         Ok(self.core.step(event)?)
     }
@@ -98,6 +99,16 @@ impl Seat {
             Some(content) => Ok(Some(content.len())),
             None => Ok(None),
         }
+    }
+
+    /// Its low mark.
+    pub(crate) fn low(&self) -> u64 {
+        self.core.low()
+    }
+
+    /// The Checkpoints that prove its low mark.
+    pub(crate) fn low_proof(&self) -> &StableVotes {
+        self.core.low_proof()
     }
 
     /// What it keeps of the rounds.
@@ -135,10 +146,12 @@ impl Node {
         }
         match turn {
             Turn::Nudge => self.seat.act_first(&[Mover::Nudge]),
-            Turn::Oldest | Turn::Newest => {
-                self.seat
-                    .act_first(&[Mover::Batch, Mover::Emit, Mover::Execute])
-            }
+            Turn::Oldest | Turn::Newest => self.seat.act_first(&[
+                Mover::Batch,
+                Mover::Emit,
+                Mover::Execute,
+                Mover::Checkpoint,
+            ]),
         }
     }
 }
