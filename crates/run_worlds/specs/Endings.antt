@@ -10,12 +10,18 @@ use Rattle.fab_rules.specs.Ledger.{run, all_lines}
 use Rattle.fault_script.specs.declared.scripts.Script.{Script}
 use Rattle.fault_script.specs.declared.scripts.Wish.{Wish}
 use Rattle.fault_script.specs.Scripts.{keeps_limits}
-use Rattle.run_words.specs.Lawful.{Lawful, Settled, entries_of}
+use Rattle.run_words.specs.Lawful.{AreEach, Kept, Lawful, Settled, entries_of}
 use Rattle.run_words.specs.declared.ends.End.{End}
 use Rattle.run_words.specs.declared.logs.Transcript.{Transcript}
-use Rattle.run_worlds.specs.Scripts.{roster_of, script_rules}
+use Rattle.run_worlds.specs.Scripts.{roster_of, makers_of, script_rules}
 use Rattle.run_worlds.specs.Worlds.{ledgers_of}
 use Rattle.run_worlds.specs.Sights.{first_evidence}
+
+-- logs may hold it: its script keeps its limits, and each of the script's replicas, by id, left its trace, which is one that a log of this
+-- replica may hold. Nothing is asked between traces
+pub record IsOfLogs (t : Transcript) : Type 0 where
+  pub limits : keeps_limits t.script ≡ true
+  pub kept : AreEach Kept (makers_of t.script) t.traces
 
 -- a lawful run of a script that keeps its limits
 pub record IsRunOf (script : Script) (t : Transcript) : Type 0 where
