@@ -7,4 +7,5 @@ pub mod Premises
 pub mod Batches
 pub mod Signers
 pub mod Walks
+pub mod Witnesses
 pub mod Evidence

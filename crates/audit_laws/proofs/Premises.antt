@@ -20,14 +20,14 @@ use Rattle.run_words.specs.declared.logs.Transcript.{Transcript}
 use Rattle.run_words.proofs.Replays.{honest}
 use Rattle.run_worlds.specs.Scripts.{roster_of, maker_of}
 use Rattle.run_worlds.specs.Worlds.{world_of}
-use Rattle.run_worlds.specs.Endings.{IsRunOf}
+use Rattle.run_worlds.specs.Endings.{IsOfLogs}
 use Rattle.run_worlds.proofs.ScriptLimits.{within_limits}
 use Rattle.audit_laws.specs.Laws.{WorldLaw}
 use Rattle.audit_laws.proofs.Members.{is_listed, takes_part}
 use Rattle.audit_laws.proofs.Journals.{was_heard}
 use Rattle.audit_laws.proofs.Traces.{IsTraceOf, trace_is, trace_of}
 
-module _ (t : Transcript) (run : IsRunOf t.script t) where
+module _ (t : Transcript) (run : IsOfLogs t) where
   abbrev world : World
   world = world_of t
 

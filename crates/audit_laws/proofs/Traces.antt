@@ -16,7 +16,7 @@ use Rattle.script_keys.specs.Keys.{replicas_of}
 use Rattle.run_worlds.specs.Scripts.{maker_of}
 use Rattle.run_worlds.specs.Worlds.{diary_in, world_of}
 use Rattle.run_worlds.specs.Sights.{is_signed_by}
-use Rattle.run_worlds.specs.Endings.{IsRunOf}
+use Rattle.run_worlds.specs.Endings.{IsOfLogs}
 use Rattle.audit_laws.proofs.Members.{AreDistinct, replicas_are_distinct}
 
 module _ (script : Script) where
@@ -112,9 +112,9 @@ signed_if (t ∷ traces) i content h = go (is_same i t.id) refl (signed_if trace
 abbrev pub IsTraceOf : Transcript → Trace → Type 0
 IsTraceOf t trace = IsKeptBy t.script (world_of t).diary (replicas_of t.script) trace
 
-pub trace_is : (t : Transcript) → IsRunOf t.script t → (trace : Trace) → In trace t.traces → IsTraceOf t trace
+pub trace_is : (t : Transcript) → IsOfLogs t → (trace : Trace) → In trace t.traces → IsTraceOf t trace
 trace_is t run trace i =
-    each_kept t.script (world_of t).diary (replicas_of t.script) t.traces (replicas_are_distinct t.script) run.lawful.kept (λ j h. refl) trace i
+    each_kept t.script (world_of t).diary (replicas_of t.script) t.traces (replicas_are_distinct t.script) run.kept (λ j h. refl) trace i
 
-pub trace_of : (t : Transcript) → IsRunOf t.script t → (i : ReplicaId) → In i (replicas_of t.script) → HasTrace t.script t.traces i
-trace_of t run i h = has_trace t.script (replicas_of t.script) t.traces i run.lawful.kept h
+pub trace_of : (t : Transcript) → IsOfLogs t → (i : ReplicaId) → In i (replicas_of t.script) → HasTrace t.script t.traces i
+trace_of t run i h = has_trace t.script (replicas_of t.script) t.traces i run.kept h

@@ -8,6 +8,7 @@ use Rattle.run_words.specs.declared.logs.Transcript.{Transcript}
 use Rattle.run_worlds.specs.Worlds.{world_of}
 use Rattle.run_worlds.specs.Sights.{first_evidence}
 use Rattle.run_worlds.specs.Endings.{IsRunOf, IsEnd}
+use Rattle.run_worlds.proofs.RunLogs.{logs_of}
 use Rattle.audit_laws.proofs.Evidence.{safe_run}
 use Rattle.fabric_run.specs.declared.exits.Exit.{Exit}
 use Rattle.fabric_run.specs.declared.exits.Exit.TheVariants.{Done, Usage, ReadFault, WriteFault, TooLong, BadScript, Stalled, Spent, Broken, NoMemory}
@@ -56,7 +57,7 @@ wrote_clean old new t exit w =
 
 -- without evidence the run is safe
 safe_of : (old new : Supply) (t : Transcript) → HasRun old new t → first_evidence t ≡ None → IsSafe (world_of t)
-safe_of old new t h clean = safe_run t (own_run h.0 t h.4) clean
+safe_of old new t h clean = safe_run t (logs_of t (own_run h.0 t h.4)) clean
 
 pub safe_from : (old new : Seen) (before t : Transcript) (exit : Exit) → Ends (SimMakes t) old new exit → KeepsRun old.source new.source before t exit → IsSafeAt t exit
 safe_from old new before t Done e h = safe_of old.source new.source t h (wrote_clean old new t Done e)
