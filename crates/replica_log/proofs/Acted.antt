@@ -31,6 +31,10 @@ execute : (m : Maker) (journal : List Entry) → IsBy m journal Act.Execute mach
 unfolding moves
 execute m journal = record { makes = refl; entry = refl; told = refl }
 
+checkpoint : (m : Maker) (journal : List Entry) → IsBy m journal Act.Checkpoint machine.Event.Checkpoint Entry.Marked
+unfolding moves
+checkpoint m journal = record { makes = refl; entry = refl; told = refl }
+
 module _ {S : Type 0} {E : Type 0} (limit made : S → ℕ) (gives : S → ℕ → List ℕ → List ℕ) (old now : Keeper S) where
   abbrev HaveActed : Act → Result Told E → Type 0
   HaveActed act t = IfOk t (λ told. HasActed limit made gives old act told now)
@@ -77,3 +81,9 @@ module _ {S : Type 0} {E : Type 0} (limit made : S → ℕ) (gives : S → ℕ �
       → IfOk r (λ answer. Moves limit made gives old Entry.Executed (makes_entry answer) now)
       → HaveActed act t
   execute_acted act r t is told = acted_as act Act.Execute machine.Event.Execute Entry.Executed is (execute (maker_of limit gives old) old.journal.items) r t told
+
+  pub checkpoint_acted : (act : Act) (r : Result Answer E) (t : Result Told E) → act ≡ Act.Checkpoint → t ≡ told_by r
+      → IfOk r (λ answer. answer ≡ answer_to (maker_of limit gives old) old.journal.items machine.Event.Checkpoint)
+      → IfOk r (λ answer. Moves limit made gives old Entry.Marked (makes_entry answer) now)
+      → HaveActed act t
+  checkpoint_acted act r t is told = acted_as act Act.Checkpoint machine.Event.Checkpoint Entry.Marked is (checkpoint (maker_of limit gives old) old.journal.items) r t told

@@ -35,6 +35,11 @@ pub can_execute : (m : Maker) (journal : List Entry) (core : Machine) → core �
 unfolding moves
 can_execute m journal core h = ap (λ (c : Machine). moves_by c cores.Mover.Execute) h
 
+pub can_checkpoint : (m : Maker) (journal : List Entry) (core : Machine) → core ≡ core_after m journal
+    → moves_by core cores.Mover.Checkpoint ≡ moves m journal Mover.Checkpoint
+unfolding moves
+can_checkpoint m journal core h = ap (λ (c : Machine). moves_by c cores.Mover.Checkpoint) h
+
 -- ---- a leaf was left for whatever was signed
 
 abbrev IsWithin : Maker → List Entry → Type 0
@@ -58,6 +63,7 @@ one_within m journal rest (Entry.Heard origin x) made h = omega arith
 one_within m journal rest Entry.Proposed made h = omega arith
 one_within m journal rest Entry.Nudged made h = omega arith
 one_within m journal rest Entry.Executed made h = omega arith
+one_within m journal rest Entry.Marked made h = omega arith
 
 within_from : (m : Maker) (earlier rest : List Entry) → IsMade m (earlier ++ rest) → IsWithin m earlier → IsWithin m (earlier ++ rest)
 within_from m earlier [] made h = subst (IsWithin m) (sym (append-nil earlier)) h

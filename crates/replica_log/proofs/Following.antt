@@ -54,6 +54,7 @@ may_come m Entry.Proposed h = tt
 may_come m Entry.Nudged h = tt
 may_come m (Entry.Sent item) h = tt
 may_come m Entry.Executed h = tt
+may_come m Entry.Marked h = tt
 
 sound_at : (m : Maker) (journal : List Entry) (k : ℕ) (d : Entry) → k < length journal → AreSound m journal
     → MayCome m.roster (event_of (get_or journal k d))

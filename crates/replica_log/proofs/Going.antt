@@ -21,24 +21,13 @@ use Rattle.replica_log.proofs.Growing.{IsMore, kept_more, core_more}
 -- ---- such an entry
 
 moving_cases : (P : Event → Entry → Type 0) → P Event.Batch Entry.Proposed → P Event.Nudge Entry.Nudged → P Event.Execute Entry.Executed
+    → P Event.Checkpoint Entry.Marked
     → (event : Event) (e : Entry) → IsMoving event e → P event e
-moving_cases P a b c Event.Batch Entry.Proposed h = a
-moving_cases P a b c Event.Nudge Entry.Nudged h = b
-moving_cases P a b c Event.Execute Entry.Executed h = c
-moving_cases P a b c Event.Batch Entry.Nudged h = absurd h
-moving_cases P a b c Event.Batch Entry.Executed h = absurd h
-moving_cases P a b c Event.Batch (Entry.Heard origin x) h = absurd h
-moving_cases P a b c Event.Batch (Entry.Sent item) h = absurd h
-moving_cases P a b c Event.Nudge Entry.Proposed h = absurd h
-moving_cases P a b c Event.Nudge Entry.Executed h = absurd h
-moving_cases P a b c Event.Nudge (Entry.Heard origin x) h = absurd h
-moving_cases P a b c Event.Nudge (Entry.Sent item) h = absurd h
-moving_cases P a b c Event.Execute Entry.Proposed h = absurd h
-moving_cases P a b c Event.Execute Entry.Nudged h = absurd h
-moving_cases P a b c Event.Execute (Entry.Heard origin x) h = absurd h
-moving_cases P a b c Event.Execute (Entry.Sent item) h = absurd h
-moving_cases P a b c (Event.Hear shaped) e h = absurd h
-moving_cases P a b c (Event.Emit sig) e h = absurd h
+moving_cases P a b c d Event.Batch Entry.Proposed h = a
+moving_cases P a b c d Event.Nudge Entry.Nudged h = b
+moving_cases P a b c d Event.Execute Entry.Executed h = c
+moving_cases P a b c d Event.Checkpoint Entry.Marked h = d
+moving_cases P a b c d event e h = absurd h
 
 record IsQuiet (m : Maker) (journal : List Entry) (event : Event) (e : Entry) : Type 0 where
   next : makes_entry (step m.roster m.id (state m journal) (cores.event_of event)).answer ≡ true → IsNext m journal e
@@ -52,6 +41,7 @@ quiet : (m : Maker) (journal : List Entry) (event : Event) (e : Entry) → IsMov
 unfolding moves signed_by added
 quiet m journal =
     moving_cases (IsQuiet m journal)
+    (record { next = λ h. h; event_is = refl; sound = tt; ticks = λ c. refl; signs = refl; puts = λ w. refl })
     (record { next = λ h. h; event_is = refl; sound = tt; ticks = λ c. refl; signs = refl; puts = λ w. refl })
     (record { next = λ h. h; event_is = refl; sound = tt; ticks = λ c. refl; signs = refl; puts = λ w. refl })
     (record { next = λ h. h; event_is = refl; sound = tt; ticks = λ c. refl; signs = refl; puts = λ w. refl })

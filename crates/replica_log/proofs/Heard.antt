@@ -36,10 +36,7 @@ heard m journal x (Entry.Heard origin y) s h = record {
   signs = refl;
   puts = λ w. refl;
 }
-heard m journal x Entry.Proposed s h = absurd h
-heard m journal x Entry.Nudged s h = absurd h
-heard m journal x (Entry.Sent item) s h = absurd h
-heard m journal x Entry.Executed s h = absurd h
+heard m journal x e s h = absurd h
 
 more_of : (m : Maker) (journal : List Entry) (x : Message) (e : Entry) (old now : ℕ) (signed : List (List ℕ)) (counts : Counts) (made : ℕ)
     → IsKept m journal old signed counts made → IsHeard m journal x e → now ≡ tick old e → IsMore m journal e old now signed signed counts made made

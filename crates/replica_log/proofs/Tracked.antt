@@ -66,6 +66,11 @@ walk_more m w now Entry.Executed h = record {
   parcels = h.parcels ∙ sym (append-nil w.parcels);
   numbers = subst (AreNumbers now.numbers) (sym (append-nil w.parcels)) h.numbers;
 }
+walk_more m w now Entry.Marked h = record {
+  clock = h.clock;
+  parcels = h.parcels ∙ sym (append-nil w.parcels);
+  numbers = subst (AreNumbers now.numbers) (sym (append-nil w.parcels)) h.numbers;
+}
 
 walk_on : (m : Maker) (w : journals.Walk) (now : Walk) (rest : List Entry) → IsWalk w now → IsWalk (fold (after_entry m) w rest) (fold walked now rest)
 walk_on m w now [] h = h

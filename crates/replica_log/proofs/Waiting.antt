@@ -10,7 +10,7 @@ use Rattle.fab_rules.specs.Format.{is_u64, id_fits, digest_fits, signature_fits,
 use Rattle.fab_rules.specs.Lists.{In, first_of}
 use Rattle.fab_rules.specs.Statements.{signer_of}
 use Rattle.fab_rules.proofs.Fitting.{fields_are}
-use Rattle.fab_rules.proofs.Lengths.{proposal_is_spelled, prepare_is_spelled, commit_is_spelled, note_is_spelled}
+use Rattle.fab_rules.proofs.Lengths.{proposal_is_spelled, prepare_is_spelled, commit_is_spelled, checkpoint_is_spelled, note_is_spelled}
 use Rattle.fab_machine.specs.State.{Replica}
 use Rattle.fab_machine.specs.Items.{is_own, with_sig, draft_of}
 use Rattle.fab_machine.specs.ReplicaState.{IsReplicaState}
@@ -31,7 +31,7 @@ use Rattle.replica_log.proofs.Following.{may_come}
 
 -- ---- what waits
 
--- the state is one of a replica, and only its own proposals, votes and notes wait
+-- the state is one of a replica, and only its own proposals, votes, Checkpoints and notes wait
 record IsSteady (m : Maker) (s : Replica) : Type 0 where
   whole : IsReplicaState m.roster m.id s
   voices : AreVoices m.id s.outbox
@@ -83,12 +83,15 @@ signed_fits me sig (Message.Commit x) v f h =
     commit_is_spelled (record x { sig = sig })
     (keep (id_fits x.signer) _ _ (keep (is_u64 x.view) _ _ (keep (is_u64 x.slot) _ _ (keep (digest_fits x.digest) _ _ (λ z. f))))
     (fields_are (Message.Commit x) h))
+signed_fits me sig (Message.Checkpoint x) v f h =
+    checkpoint_is_spelled (record x { sig = sig })
+    (keep (id_fits x.signer) _ _ (keep (is_u64 x.round) _ _ (keep (digest_fits x.digest) _ _ (λ z. f)))
+    (fields_are (Message.Checkpoint x) h))
 signed_fits me sig (Message.ReplyNote x) v f h =
     note_is_spelled (record x { sig = sig })
     (keep (id_fits x.signer) _ _ (keep (is_u64 x.round) _ _ (keep (digest_fits x.digest) _ _ (keep (lines_fit x.lines) _ _ (λ z. f))))
     (fields_are (Message.ReplyNote x) h))
 signed_fits me sig (Message.Request x) v f h = absurd v
-signed_fits me sig (Message.Checkpoint x) v f h = absurd v
 signed_fits me sig (Message.ViewChange x) v f h = absurd v
 signed_fits me sig (Message.NewView x) v f h = absurd v
 signed_fits me sig (Message.Drvc x) v f h = absurd v
@@ -100,9 +103,9 @@ signature_there : (me : ReplicaId) (sig : List ℕ) (x : Message) → IsVoice me
 signature_there me sig (Message.PrePrepare x) v = refl
 signature_there me sig (Message.Prepare x) v = refl
 signature_there me sig (Message.Commit x) v = refl
+signature_there me sig (Message.Checkpoint x) v = refl
 signature_there me sig (Message.ReplyNote x) v = refl
 signature_there me sig (Message.Request x) v = absurd v
-signature_there me sig (Message.Checkpoint x) v = absurd v
 signature_there me sig (Message.ViewChange x) v = absurd v
 signature_there me sig (Message.NewView x) v = absurd v
 signature_there me sig (Message.Drvc x) v = absurd v
@@ -176,6 +179,7 @@ made_spelled m journal (Entry.Heard origin x) h next short = tt
 made_spelled m journal Entry.Proposed h next short = tt
 made_spelled m journal Entry.Nudged h next short = tt
 made_spelled m journal Entry.Executed h next short = tt
+made_spelled m journal Entry.Marked h next short = tt
 
 spelled_from : (m : Maker) (earlier rest : List Entry) → IsWithinLimits m.roster → IsTrue (is_replica m.roster m.id) → AreShort m
     → AreSound m earlier → IsMadeFrom m earlier rest → AreSound m rest

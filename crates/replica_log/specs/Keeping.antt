@@ -88,6 +88,7 @@ abbrev pub IsMoving : Event → Entry → Type 0
 IsMoving Event.Batch Entry.Proposed = Unit {0}
 IsMoving Event.Nudge Entry.Nudged = Unit {0}
 IsMoving Event.Execute Entry.Executed = Unit {0}
+IsMoving Event.Checkpoint Entry.Marked = Unit {0}
 IsMoving event entry = ⊥
 
 -- ---- what the core hears

@@ -47,6 +47,7 @@ impl<S: Signer + Drop> Keeper<S> {
             Act::Batch => told(self.propose()),
             Act::Nudge => told(self.nudge()),
             Act::Execute => told(self.execute()),
+            Act::Checkpoint => told(self.checkpoint()),
             Act::Emit => Ok(told_anyway(self.emit())),
         }
     }

@@ -30,6 +30,7 @@ impl<S: Signer + Drop> Keeper<S> {
             Mover::Nudge => self.core.moves(cores::Mover::Nudge),
             Mover::Emit => self.can_emit(),
             Mover::Execute => self.core.moves(cores::Mover::Execute),
+            Mover::Checkpoint => self.core.moves(cores::Mover::Checkpoint),
         }
     }
 }

@@ -15,8 +15,9 @@ use lms_tree::Signer;
 use replica_core::Event;
 use run_words::{Entry, Origin};
 
-/// The clock after hearing from an origin (Lamport's rule). It fails where the time is the greatest number, which no clock is after.
-fn ticked(clock: u64, origin: Origin) -> Result<u64, NoMemory>
+/// The clock after hearing from an origin (Lamport's rule). It fails only where the time is the last value of a `u64`, which no clock is
+/// after.
+pub(crate) fn ticked(clock: u64, origin: Origin) -> Result<u64, NoMemory>
     ensures { IfOk result (λ now. now ≡ tick_by clock origin) }
 {
     match origin {

@@ -1,4 +1,20 @@
 //! A correct replica in a run: a core that keeps its journal, its clock and its signer.
+//!
+//! - [`replica_log`] makes a [`ReplicaLog`], which has done nothing. It is a [`Party`](run_words::Party), and its calls are that trait's: an act
+//!   makes the entry that the replica's machine makes after the journal, and what is left behind at the end is the trace of the journal.
+//! - [`replay`] makes the core that a replica has after a journal.
+//!
+//! It knows no clock but its own (Lamport's), no socket and no thread: what it sends is a list of parcels. Where memory is refused in the
+//! middle of an act the journal stays and the log is shut, so each later act answers `NoMemory`. Emit takes all its memory before the
+//! signer uses a leaf, and leaves the log open.
+//!
+//! Contracts see a [`ReplicaLog`] as a `Log` (`specs/Logs`); what holds of all that it keeps is `specs/Keeping`. Journals, entries and what
+//! is told of them are those of `run_words`: this crate defines none of its own.
+//!
+//! The modules: `logs` has the type, `making` makes one, and `party` has its calls. `keepers` is what a log keeps. `acting` says which act goes
+//! where, and `asking` whether it would make an entry; `hearing` is Hear and the clock, `moving` is what the core does of its own accord
+//! (Batch, Nudge, Execute and Checkpoint), `sending` is Emit, and `entering` is one step of the core with its entry. `numbering` has the numbers of
+//! parcels, `posting` makes parcels, `tracing` those of a whole journal, and `leaving` the trace. `replaying` replays a journal.
 #![tactic(auto)]
 
 mod acting;

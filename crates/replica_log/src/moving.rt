@@ -1,4 +1,4 @@
-//! Batch, Nudge and Execute: what the core does of its own accord.
+//! Batch, Nudge, Execute and Checkpoint: what the core does of its own accord.
 ghost use Rattle.std.specs.Prelude.{◌≡◌, ◌<◌, IfOk, OnErr, vec_len, vec_capacity};
 ghost use Rattle.fab_machine.specs.Step as machine;
 ghost use Rattle.fab_machine.specs.Step.{makes_entry};
@@ -63,5 +63,17 @@ impl<S: Signer + Drop> Keeper<S> {
     {
         self.journal.reserve(1)?;
         self.advance(Event::Execute, NewEntry::new(Entry::Executed))
+    }
+
+    /// Puts a Checkpoint that is due, or else moves the low mark.
+    pub(crate) fn checkpoint(&mut self) -> Result<Answer, NoMemory>
+        requires kept { Keeps S.limit S.made S.gives self.old }
+        requires live { IsLive S.limit S.gives self.old }
+        ensures answer { IfOk result (λ answer. answer ≡ answer_to (maker_of S.limit S.gives self.old) self.old.journal.items machine.Event.Checkpoint) }
+        ensures moves { IfOk result (λ answer. Moves S.limit S.made S.gives self.old entries.Entry.Marked (makes_entry answer) self.new) }
+        ensures stays { OnErr result (Stays S.limit S.made S.gives self.old self.new) }
+    {
+        self.journal.reserve(1)?;
+        self.advance(Event::Checkpoint, NewEntry::new(Entry::Marked))
     }
 }

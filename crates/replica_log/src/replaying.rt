@@ -55,6 +55,7 @@ fn event(alloc: Global, members: &Members, entry: &Entry) -> Result<Event, NoMem
             sig: signature(alloc, &item.message)?,
         }),
         Entry::Executed => Ok(Event::Execute),
+        Entry::Marked => Ok(Event::Checkpoint),
     }
 }
 

@@ -3,27 +3,17 @@ ghost use Rattle.std.specs.Prelude.{◌≡◌, ◌++◌, OnOk, IfOk, IsTrue};
 ghost use Rattle.fab_rules.specs.Format.{fits};
 ghost use Rattle.fab_rules.specs.Spelling.{spelling_of};
 ghost use Rattle.run_words.specs.Journal as journals;
-ghost use Rattle.run_words.specs.Journal.{Maker, tick_by};
+ghost use Rattle.run_words.specs.Journal.{Maker};
 ghost use Rattle.replica_log.specs.Posting.{numbered, raised_by, AreSpelled, IsSpelled};
 ghost use Rattle.replica_log.specs.Walking.{walked};
 
+use crate::hearing::ticked;
 use crate::numbering::Numbers;
 use crate::posting::prepare;
 use bft_msg::encode;
 use fab_base::{Item, NoMemory};
-use run_words::{Entry, Origin, Parcels};
+use run_words::{Entry, Parcels};
 use std::alloc::Global;
-
-/// The clock after something is heard of this origin: above the time of a parcel. It fails only where that time is the last value of a
-/// `u64`.
-fn tick(clock: u64, origin: Origin) -> Result<u64, NoMemory>
-    ensures { IfOk result (λ ticked. ticked ≡ tick_by clock origin) }
-{
-    match origin {
-        Origin::Client(_) => Ok(clock),
-        Origin::Replica { time, .. } => Ok(clock.max(time.checked_add(1).ok_or(NoMemory)?)),
-    }
-}
 
 /// What was put so far, with the clock and the numbers.
 #[derive(Drop)]
@@ -61,9 +51,9 @@ impl Walk {
         ensures { OnOk result (self.new ≡ walked self.old entry.now) }
     {
         match entry {
-            Entry::Heard(origin, _) => self.clock = tick(self.clock, *origin)?,
+            Entry::Heard(origin, _) => self.clock = ticked(self.clock, *origin)?,
             Entry::Sent(item) => self.put(alloc, item)?,
-            Entry::Proposed | Entry::Nudged | Entry::Executed => {}
+            Entry::Proposed | Entry::Nudged | Entry::Executed | Entry::Marked => {}
         }
         Ok(())
     }

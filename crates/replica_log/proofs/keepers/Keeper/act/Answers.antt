@@ -1,4 +1,4 @@
-use Rattle.replica_log.proofs.Acted.{batch_acted, nudge_acted, execute_acted}
+use Rattle.replica_log.proofs.Acted.{batch_acted, nudge_acted, execute_acted, checkpoint_acted}
 use Rattle.replica_log.proofs.keepers.Keeper.act.Goals as goal
 
 pub returns-in-Batch-clause-acted : goal.returns-in-Batch-clause-acted
@@ -15,3 +15,8 @@ pub returns-in-Execute-clause-acted : goal.returns-in-Execute-clause-acted
 returns-in-Execute-clause-acted g c =
     execute_acted g.S.Signer.limit g.S.Signer.made g.S.Signer.gives c.args.self.now c.execute.new.self c.args.act c.execute.result c.told-in-Execute.result
     c.in-Execute.is c.told-in-Execute.ensures c.execute.ensures.answer c.execute.ensures.moves
+
+pub returns-in-Checkpoint-clause-acted : goal.returns-in-Checkpoint-clause-acted
+returns-in-Checkpoint-clause-acted g c =
+    checkpoint_acted g.S.Signer.limit g.S.Signer.made g.S.Signer.gives c.args.self.now c.checkpoint.new.self c.args.act c.checkpoint.result c.told-in-Checkpoint.result
+    c.in-Checkpoint.is c.told-in-Checkpoint.ensures c.checkpoint.ensures.answer c.checkpoint.ensures.moves

@@ -1,7 +1,7 @@
 use Rattle.std.proofs.Common.{sym, ap, ◌∙◌}
 use Rattle.run_words.specs.Journal.{moves}
 use Rattle.replica_log.specs.Keeping.{maker_of}
-use Rattle.replica_log.proofs.Asked.{can_batch, can_nudge, can_execute}
+use Rattle.replica_log.proofs.Asked.{can_batch, can_nudge, can_execute, can_checkpoint}
 use Rattle.replica_log.proofs.keepers.Keeper.moves.Goals as goal
 
 pub returns-in-Batch : goal.returns-in-Batch
@@ -21,3 +21,9 @@ returns-in-Execute g c =
     let k = c.args.self.now in
     let m = maker_of g.S.Signer.limit g.S.Signer.gives k in
     c.moves-in-Execute.ensures ∙ can_execute m k.journal.items k.core c.requires.live ∙ ap (moves m k.journal.items) (sym c.in-Execute.is)
+
+pub returns-in-Checkpoint : goal.returns-in-Checkpoint
+returns-in-Checkpoint g c =
+    let k = c.args.self.now in
+    let m = maker_of g.S.Signer.limit g.S.Signer.gives k in
+    c.moves-in-Checkpoint.ensures ∙ can_checkpoint m k.journal.items k.core c.requires.live ∙ ap (moves m k.journal.items) (sym c.in-Checkpoint.is)
