@@ -109,6 +109,7 @@ next_entry t i journal place e below is met =
     by Entry.Nudged rest = refl
     by (Entry.Sent item) rest = refl
     by Entry.Executed rest = refl
+    by Entry.Marked rest = refl
 
 pub no_entry : (t : Transcript) (i : ReplicaId) (journal : List Entry) (place : ℕ) → length journal ≤ place → (met : Batches)
     → after_entries t i place met (drop place journal) ≡ Ok met

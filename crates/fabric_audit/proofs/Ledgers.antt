@@ -118,6 +118,7 @@ may_come m (Entry.Proposed ∷ rest) h e (inl q) = subst (MayCome m.roster) q tt
 may_come m (Entry.Nudged ∷ rest) h e (inl q) = subst (MayCome m.roster) q tt
 may_come m (Entry.Sent sent ∷ rest) h e (inl q) = subst (MayCome m.roster) q tt
 may_come m (Entry.Executed ∷ rest) h e (inl q) = subst (MayCome m.roster) q tt
+may_come m (Entry.Marked ∷ rest) h e (inl q) = subst (MayCome m.roster) q tt
 may_come m (x ∷ rest) h e (inr i) = may_come m rest h.1 e i
 
 pub ledger_is : (m : Maker) (journal : List Entry) → IsWithinLimits m.roster → IsTrue (is_replica m.roster m.id) → IsMade m journal → AreSound m journal

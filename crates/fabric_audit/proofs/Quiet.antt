@@ -110,6 +110,7 @@ heard_both p journal =
     one Entry.Nudged = omega arith
     one (Entry.Sent item) = omega arith
     one Entry.Executed = omega arith
+    one Entry.Marked = omega arith
 
 named_both : (p : Test) (from : ReplicaId) (o : Option Parcel) → named_counted p from o + named_counted (other p) from o ≡ named_counted any from o
 named_both p from None = omega arith
@@ -182,6 +183,7 @@ heard_all journal = sum_same (λ (e : Entry). heard_once any e) (λ (e : Entry).
     one Entry.Nudged = refl
     one (Entry.Sent item) = refl
     one Entry.Executed = refl
+    one Entry.Marked = refl
 
 taken_is : (traces : List Trace) (m : Maker) (t : Trace) → AreRefused traces m t → used_counted any traces m t ≡ taken_by t
 taken_is traces m t h = let a = heard_all t.journal in let b = refused_all traces m t h in omega arith

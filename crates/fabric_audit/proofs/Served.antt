@@ -6,7 +6,7 @@ use Rattle.fault_script.specs.declared.scripts.Script.{Script}
 use Rattle.run_words.specs.declared.logs.Trace.{Trace}
 use Rattle.run_words.specs.declared.logs.Transcript.{Transcript}
 use Rattle.run_worlds.specs.Scripts.{makers_of}
-use Rattle.run_worlds.specs.Endings.{IsRunOf, is_effective, first_missing}
+use Rattle.run_worlds.specs.Endings.{IsOfLogs, is_effective, first_missing}
 use Rattle.fabric_audit.specs.Replayed.{IsReplayable}
 use Rattle.fabric_audit.specs.Stamps.{stamps_of, is_served, is_served_in, served_by}
 use Rattle.fabric_audit.proofs.Prefixes.{both_pass, same_pass, first_not}
@@ -27,13 +27,13 @@ served_more script traces i t stamps count now lt is by before after =
     ∙ sym (list_all_more (is_served_in script w) traces i t lt))
 
 -- the first request that didn't take effect in each ledger
-pub missing_is : (t : Transcript) (count : ℕ) → IsRunOf t.script t → count ≡ prefix_len (served_by t.script t.traces) t.script.requests
+pub missing_is : (t : Transcript) (count : ℕ) → IsOfLogs t → count ≡ prefix_len (served_by t.script t.traces) t.script.requests
     → slice_get t.script.requests count ≡ first_missing t
 missing_is t count run is =
     ap (slice_get t.script.requests)
     (is ∙ same_pass (served_by t.script t.traces) (is_effective t) t.script.requests
-    (λ w h. effective t.script w (makers_of t.script) t.traces run.limits h (all_of t.script) run.lawful.kept))
+    (λ w h. effective t.script w (makers_of t.script) t.traces run.limits h (all_of t.script) run.kept))
     ∙ first_not (is_effective t) t.script.requests
 
-pub run_replayable : (t : Transcript) → IsRunOf t.script t → All (IsReplayable t.script) t.traces
-run_replayable t run = all_replayable t.script (makers_of t.script) t.traces (all_of t.script) run.lawful.kept
+pub run_replayable : (t : Transcript) → IsOfLogs t → All (IsReplayable t.script) t.traces
+run_replayable t run = all_replayable t.script (makers_of t.script) t.traces (all_of t.script) run.kept

@@ -48,7 +48,7 @@ is_behind false b h = refl
 -- no event would make an entry
 abbrev AreIdle : Maker → Trace → Type 0
 AreIdle m t = (moves m t.journal Mover.Batch ≡ false) × (moves m t.journal Mover.Nudge ≡ false) × (moves m t.journal Mover.Execute ≡ false)
-    × (moves m t.journal Mover.Emit ≡ false)
+    × (moves m t.journal Mover.Checkpoint ≡ false) × (moves m t.journal Mover.Emit ≡ false)
 
 module _ (script : Script) (t : Trace) (used : t.signed ≡ signed_of (maker_by script t) t.journal) where
   abbrev would : Event → Bool
@@ -65,10 +65,13 @@ module _ (script : Script) (t : Trace) (used : t.signed ≡ signed_of (maker_by 
       let nudge = and_left _ _ after_batch in
       let after_nudge = and_right _ _ after_batch in
       let execute = and_left _ _ after_nudge in
-      let emit = and_right _ _ after_nudge in (
+      let after_execute = and_right _ _ after_nudge in
+      let checkpoint = and_left _ _ after_execute in
+      let emit = and_right _ _ after_execute in (
         not_true (would Event.Batch) batch,
         not_true (would Event.Nudge) nudge,
         not_true (would Event.Execute) execute,
+        not_true (would Event.Checkpoint) checkpoint,
         behind (would (Event.Emit [])) (blocked (length (signed_of (maker_by script t) t.journal)))
             (ap (λ (l : List (List ℕ)). not (would (Event.Emit [])) || blocked (length l)) (sym used) ∙ emit),
       )
@@ -79,19 +82,21 @@ module _ (script : Script) (t : Trace) (used : t.signed ≡ signed_of (maker_by 
       and_both _ _ (is_not (would Event.Batch) h.0)
       (and_both _ _ (is_not (would Event.Nudge) h.1)
       (and_both _ _ (is_not (would Event.Execute) h.2)
+      (and_both _ _ (is_not (would Event.Checkpoint) h.3)
       (ap (λ (l : List (List ℕ)). not (would (Event.Emit [])) || blocked (length l)) used
-      ∙ is_behind (would (Event.Emit [])) (blocked (length (signed_of (maker_by script t) t.journal))) h.3)))
+      ∙ is_behind (would (Event.Emit [])) (blocked (length (signed_of (maker_by script t) t.journal))) h.4))))
 
 -- ---- in the words of runs
 
 idle_is : (m : Maker) (t : Trace) → AreIdle m t → IsIdle m t
 idle_is m t h Mover.Batch = h.0
 idle_is m t h Mover.Nudge = h.1
-idle_is m t h Mover.Emit = h.3
+idle_is m t h Mover.Emit = h.4
 idle_is m t h Mover.Execute = h.2
+idle_is m t h Mover.Checkpoint = h.3
 
 idle_are : (m : Maker) (t : Trace) → IsIdle m t → AreIdle m t
-idle_are m t h = (h Mover.Batch, h Mover.Nudge, h Mover.Execute, h Mover.Emit)
+idle_are m t h = (h Mover.Batch, h Mover.Nudge, h Mover.Execute, h Mover.Checkpoint, h Mover.Emit)
 
 sent_is : (m : Maker) (t : Trace) → Kept m t → IsIdle m t → IsSent m t
 sent_is m t k h = elim (sent_or_blocked m t.journal (h Mover.Emit)) [ inl e ↦ inl (k.unsent ∙ e) | inr b ↦ inr b ]

@@ -17,7 +17,8 @@ is_still_at me core leaves used =
     not (moves_by core Mover.Batch)
     && (not (moves_by core Mover.Nudge)
     && (not (moves_by core Mover.Execute)
-    && (not (moves_by core Mover.Emit) || (needs_leaf me (first core.state) && nat_le leaves used))))
+    && (not (moves_by core Mover.Checkpoint)
+    && (not (moves_by core Mover.Emit) || (needs_leaf me (first core.state) && nat_le leaves used)))))
 
 -- the replica that left the trace
 abbrev pub is_still : Script → Trace → Bool

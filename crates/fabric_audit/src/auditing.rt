@@ -3,7 +3,7 @@ ghost use Rattle.std.specs.Prelude.{◌≡◌, [], IfOk, IsTrue};
 ghost use Rattle.std.specs.List.{list_all};
 ghost use Rattle.fab_rules.specs.Format.{fits};
 ghost use Rattle.run_worlds.specs.Sights.{after_message, after_entries, after_traces, first_evidence};
-ghost use Rattle.run_worlds.specs.Endings.{IsRunOf};
+ghost use Rattle.run_worlds.specs.Endings.{IsOfLogs};
 ghost use Rattle.fabric_audit.specs.Journals.{entry_fits, journal_fits, after_entry};
 ghost use Rattle.fabric_audit.specs.Meeting.{Finds, Meets};
 
@@ -96,9 +96,10 @@ fn audit_run(alloc: Global, makers: &Makers, null: &Batch) -> Result<(), Stop>
 
 /// The first evidence against the premises of agreement, where there is any: a statement that a replica heard under the name of a signer
 /// who never made it, or two batches that share a digest. The replicas are gone through by id, what each heard in its order, and of each
-/// message first its parts, then its batches. It fails only where memory is refused.
+/// message first its parts, then its batches. Any transcript that logs may hold is judged, lawful or not. It fails only where memory is
+/// refused.
 pub fn audit(alloc: Global, transcript: &Transcript) -> Result<Option<Evidence>, NoMemory>
-    requires { IsRunOf transcript.now.script transcript.now }
+    requires { IsOfLogs transcript.now }
     ensures { IfOk result (λ found. found ≡ first_evidence transcript.now) }
 {
     let asked = asked_contents(alloc, transcript.script.requests.as_slice())?;

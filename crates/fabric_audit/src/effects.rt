@@ -5,7 +5,7 @@ ghost use Rattle.std.specs.Prelude.{◌≡◌, true, length, IfOk};
 ghost use Rattle.std.specs.List.{All, prefix_len};
 ghost use Rattle.std.specs.Option.{option_copied};
 ghost use Rattle.fault_script.specs.Scripts.{keeps_limits};
-ghost use Rattle.run_worlds.specs.Endings.{IsRunOf, first_missing};
+ghost use Rattle.run_worlds.specs.Endings.{IsOfLogs, first_missing};
 ghost use Rattle.fabric_audit.specs.Replayed.{IsReplayable};
 ghost use Rattle.fabric_audit.specs.Stamps.{NUMBERS, counted, counted_all, last_stamps, stamps_of, is_served, served_by};
 
@@ -95,7 +95,7 @@ pub(crate) fn first_missing(
     alloc: Global,
     transcript: &Transcript,
 ) -> Result<Option<&Wish>, NoMemory>
-    requires { IsRunOf transcript.now.script transcript.now }
+    requires { IsOfLogs transcript.now }
     ensures { IfOk result (λ missing. option_copied missing ≡ first_missing transcript.now) }
 {
     let script = &transcript.script;

@@ -72,6 +72,7 @@ fn is_still_at(replica: ReplicaId, core: &Core, leaves: u64, used: u64) -> bool
     !core.moves(Mover::Batch)
         && !core.moves(Mover::Nudge)
         && !core.moves(Mover::Execute)
+        && !core.moves(Mover::Checkpoint)
         && (!core.moves(Mover::Emit) || (needs_leaf(replica, core) && leaves <= used))
 }
 

@@ -7,4 +7,4 @@ asked_contents-requires c = rw c.as_slice.ensures (wishes_fit c.args.transcript.
 
 pub audit_run-requires-clause-fits : goal.audit_run-requires-clause-fits
 audit_run-requires-clause-fits c =
-    rw c.in_ok-makers.ensures (journals_fit (makers_of c.args.transcript.now.script) c.args.transcript.now.traces c.requires.lawful.kept)
+    rw c.in_ok-makers.ensures (journals_fit (makers_of c.args.transcript.now.script) c.args.transcript.now.traces c.requires.kept)
