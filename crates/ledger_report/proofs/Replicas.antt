@@ -29,7 +29,7 @@ use Rattle.run_words.proofs.Replays.{same_diary}
 use Rattle.script_keys.specs.Keys.{replicas_of}
 use Rattle.run_worlds.specs.Scripts.{roster_of, maker_of, makers_of}
 use Rattle.run_worlds.specs.Worlds.{ledgers_in}
-use Rattle.run_worlds.specs.Endings.{IsRunOf}
+use Rattle.run_worlds.specs.Endings.{IsOfLogs}
 use Rattle.run_worlds.proofs.ScriptLimits.{within_limits}
 use Rattle.audit_laws.proofs.Members.{takes_part}
 use Rattle.ledger_report.specs.Report.{ledger_line, ledger_lines}
@@ -43,6 +43,7 @@ may_come m Entry.Proposed h = tt
 may_come m Entry.Nudged h = tt
 may_come m (Entry.Sent item) h = tt
 may_come m Entry.Executed h = tt
+may_come m Entry.Marked h = tt
 
 related : (m : Maker) (r : Roster) (me : ReplicaId) (s : Replica) (past : List diaries.Entry) (journal : List Entry) → IsWithinLimits r
     → IsTrue (is_replica r me) → m.roster ≡ r → AreSound m journal → AreRelated r me s past
@@ -114,6 +115,6 @@ members_are script m h =
     let o = of_map (maker_of script) m (replicas_of script) h in
     subst (IsMember (roster_of script)) o.same (record { roster_is = refl; known = takes_part script o.from o.is_in })
 
-pub run_told : (t : Transcript) → IsRunOf t.script t → AreTold (roster_of t.script) (makers_of t.script) t.traces
+pub run_told : (t : Transcript) → IsOfLogs t → AreTold (roster_of t.script) (makers_of t.script) t.traces
 run_told t run =
-    are_told (roster_of t.script) (makers_of t.script) t.traces (within_limits t.script run.limits) (λ m h. members_are t.script m h) run.lawful.kept
+    are_told (roster_of t.script) (makers_of t.script) t.traces (within_limits t.script run.limits) (λ m h. members_are t.script m h) run.kept

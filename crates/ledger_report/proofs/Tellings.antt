@@ -39,6 +39,7 @@ entry_told ran Entry.Proposed = refl
 entry_told ran Entry.Nudged = refl
 entry_told ran (Entry.Sent item) = message_told ran item.message
 entry_told ran Entry.Executed = refl
+entry_told ran Entry.Marked = refl
 
 journal_told : (ran : RunBlock) (journal : List Entry) → list_any (is_note_of ran) (notes_in journal) ≡ list_any (tells ran) journal
 journal_told ran [] = refl

@@ -11,14 +11,14 @@ use Rattle.run_words.specs.declared.logs.Trace.{Trace}
 use Rattle.run_words.specs.declared.logs.Transcript.{Transcript}
 use Rattle.run_worlds.specs.Scripts.{roster_of, makers_of}
 use Rattle.run_worlds.specs.Worlds.{ledgers_in}
-use Rattle.run_worlds.specs.Endings.{IsRunOf}
+use Rattle.run_worlds.specs.Endings.{IsOfLogs}
 use Rattle.ledger_report.specs.Text.{table_text}
 use Rattle.ledger_report.specs.Report.{head_line, ledger_lines, block_lines, end_line, report_text}
 use Rattle.ledger_report.specs.Replayed.{ledger_text, longest_after}
 use Rattle.ledger_report.specs.Walking.{run_text}
 use Rattle.ledger_report.proofs.Replicas.{run_told}
 
-is_report : (t : Transcript) (end : End) → IsRunOf t.script t
+is_report : (t : Transcript) (end : End) → IsOfLogs t
     → head_line t.script.sizes ++ flat_map (ledger_text (roster_of t.script)) t.traces
     ++ run_text t.traces (start_of (roster_of t.script)) (longest_after (roster_of t.script) t.traces) ++ end_line end
     ≡ report_text t end
@@ -34,7 +34,7 @@ is_report t end h =
 
 -- ---- by what each call adds
 
-pub put_together : (t : Transcript) (end : End) (r : Roster) (traces : List Trace) (sizes head ledgers longest text : List ℕ) → IsRunOf t.script t
+pub put_together : (t : Transcript) (end : End) (r : Roster) (traces : List Trace) (sizes head ledgers longest text : List ℕ) → IsOfLogs t
     → r ≡ roster_of t.script → traces ≡ t.traces → sizes ≡ t.script.sizes → head ≡ head_line sizes
     → ledgers ≡ head ++ flat_map (ledger_text r) traces
     → longest ≡ ledgers ++ run_text traces (empty_state (length r.homes)) (longest_after r traces)

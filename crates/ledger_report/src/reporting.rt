@@ -1,6 +1,6 @@
 //! The report of a run.
 ghost use Rattle.std.specs.Prelude.{◌≡◌, IfOk};
-ghost use Rattle.run_worlds.specs.Endings.{IsRunOf};
+ghost use Rattle.run_worlds.specs.Endings.{IsOfLogs};
 ghost use Rattle.ledger_report.specs.Report.{report_text};
 
 use crate::ledgers::push_ledgers;
@@ -11,12 +11,12 @@ use run_words::{End, Transcript};
 use run_worlds::script_members;
 use std::alloc::Global;
 
-/// The report of a run that ended so. It fails only where memory is refused.
+/// The report of a run that ended so, of any transcript that logs may hold. It fails only where memory is refused.
 ///
 /// The time is that of one replay of each journal, and of a second one of the journal with the longest ledger. One replica's state is
 /// held at a time.
 pub fn report(alloc: Global, transcript: &Transcript, end: &End) -> Result<Bytes, NoMemory>
-    requires { IsRunOf transcript.now.script transcript.now }
+    requires { IsOfLogs transcript.now }
     ensures { IfOk result (λ text. text ≡ report_text transcript.now end.now) }
 {
     let script = &transcript.script;
