@@ -2,7 +2,7 @@
 ghost use Rattle.std.specs.Prelude.{◌≡◌, ◌≤◌, ◌++◌, true, IfOk, OnOk, length, map};
 ghost use Rattle.fab_base.specs.declared.limits.TheConstants.{MOST_CLUSTERS};
 ghost use Rattle.fault_script.specs.Scripts.{keeps_limits};
-ghost use Rattle.script_keys.specs.Keys.{height_of, key_height, key_of, members_of, replicas_from, signer_of, signers_of, client_keys_of};
+ghost use Rattle.script_keys.specs.Keys.{height_of, key_height, key_of, members_of, replicas_from, replicas_of, signer_of, signers_of, client_keys_of};
 
 use crate::names::seed_of;
 use fab_base::{ClientId, NoMemory, ReplicaId, Rows, Who};
@@ -66,6 +66,14 @@ fn replicas_of(alloc: Global, sizes: &[u8]) -> Result<Rows<ReplicaId>, NoMemory>
     Ok(replicas)
 }
 
+/// The replicas of a script, by id: cluster after cluster, and those of a cluster by index. It fails only where memory is refused.
+pub fn script_replicas(alloc: Global, script: &Script) -> Result<Rows<ReplicaId>, NoMemory>
+    requires { keeps_limits script.now ≡ true }
+    ensures { IfOk result (λ replicas. replicas ≡ replicas_of script.now) }
+{
+    replicas_of(alloc, script.sizes.as_slice())
+}
+
 /// The signers of these replicas.
 fn signers_for(
     alloc: Global,
@@ -88,7 +96,7 @@ pub fn replica_signers(alloc: Global, script: &Script) -> Result<Rows<LeafSigner
     requires { keeps_limits script.now ≡ true }
     ensures { IfOk result (λ signers. signers ≡ signers_of script.now) }
 {
-    let replicas = replicas_of(alloc, script.sizes.as_slice())?;
+    let replicas = script_replicas(alloc, script)?;
     signers_for(alloc, script, replicas.as_slice())
 }
 

@@ -1,8 +1,8 @@
 //! The keys of a script: whoever takes part in a simulated run has a key that is made from the script's seed, so that a run is fixed by
 //! its script.
 //!
-//! - [`replica_signers`] makes a signer for each replica, [`client_keys`] a key for each client, and [`script_ring`] the ring of all
-//!   their public keys.
+//! - [`script_replicas`] lists the replicas, [`replica_signers`] makes a signer for each, [`client_keys`] a key for each client, and
+//!   [`script_ring`] the ring of all their public keys.
 //! - [`signed_requests`] signs the requests of a script before the run, and [`request_copies`] makes a copy of each for each replica of
 //!   its client's home.
 //! - [`keys_law`] says what runs need of all this: each replica's key is in the ring and gives valid signatures, and each copy is sound
@@ -21,7 +21,7 @@ mod requests;
 mod rings;
 
 pub use copies::{Copies, request_copies};
-pub use keys::{client_keys, replica_signers};
+pub use keys::{client_keys, replica_signers, script_replicas};
 pub use laws::keys_law;
 pub use requests::signed_requests;
 pub use rings::script_ring;

@@ -1,15 +1,14 @@
 //! The logs that a run starts with.
-ghost use Rattle.std.specs.Prelude.{◌≡◌, ℕ, ◌<◌, ◌≤◌, ◌++◌, true, List, Some, length, IfOk, OnOk, IsTrue};
+ghost use Rattle.std.specs.Prelude.{◌≡◌, ℕ, ◌<◌, true, List, Some, IfOk, IsTrue};
 ghost use Rattle.fab_base.specs.Roster.{is_replica};
 ghost use Rattle.fab_base.specs.declared.ids.Who.{Who};
-ghost use Rattle.fab_base.specs.declared.limits.TheConstants.{MOST_CLUSTERS};
 ghost use Rattle.fab_rules.specs.Format.{signature_fits};
 ghost use Rattle.lms_tree.specs.Heights.{leaf_count};
 ghost use Rattle.lms_tree.specs.Keys.{public_of_key};
 ghost use Rattle.lms_tree.specs.Signatures.{leaf_signature};
 ghost use Rattle.bft_verify.specs.Ring.{key_of};
 ghost use Rattle.replica_log.specs.Logs.{fresh_log};
-ghost use Rattle.script_keys.specs.Keys.{members_of, replicas_from, replicas_of, signers_of};
+ghost use Rattle.script_keys.specs.Keys.{replicas_of, signers_of};
 ghost use Rattle.script_keys.specs.Rings.{ring_of};
 ghost use Rattle.run_worlds.specs.Scripts.{roster_of};
 ghost use Rattle.script_sim.specs.Schedules.{logs_of};
@@ -20,28 +19,6 @@ use fault_script::Script;
 use lms_leaf::LeafSigner;
 use replica_log::{ReplicaLog, replica_log};
 use std::alloc::Global;
-
-/// Puts the members of a cluster of this size behind others, by index.
-fn put_members(replicas: &mut Vec<ReplicaId>, cluster: u8, size: u8) -> Result<(), NoMemory>
-    ensures { OnOk result (replicas.new.items ≡ replicas.old.items ++ members_of cluster size) }
-{
-    for index in 0..size {
-        replicas.push(ReplicaId { cluster, index })?;
-    }
-    Ok(())
-}
-
-/// The replicas of clusters of these sizes, by id.
-pub(crate) fn replicas_of(alloc: Global, sizes: &[u8]) -> Result<Vec<ReplicaId>, NoMemory>
-    requires { length sizes.now ≤ MOST_CLUSTERS }
-    ensures { IfOk result (λ replicas. replicas.items ≡ replicas_from 1 sizes.now) }
-{
-    let mut replicas = Vec::new(alloc);
-    for before in 0..sizes.len() {
-        put_members(&mut replicas, before as u8 + 1, sizes[before])?;
-    }
-    Ok(replicas)
-}
 
 /// The log of one replica.
 fn log_of(

@@ -4,12 +4,14 @@ ghost use Rattle.fault_script.specs.Scripts.{keeps_limits};
 ghost use Rattle.run_worlds.specs.Endings.{IsRunOf};
 ghost use Rattle.script_sim.specs.Schedules.{IsScheduleOf};
 
-use crate::logs::{logs_of, replicas_of};
+use crate::logs::logs_of;
 use fab_base::NoMemory;
 use fault_script::Script;
 use run_words::Transcript;
 use run_worlds::script_members;
-use script_keys::{client_keys, replica_signers, request_copies, script_ring, signed_requests};
+use script_keys::{
+    client_keys, replica_signers, request_copies, script_replicas, script_ring, signed_requests,
+};
 use sim_sched::simulate;
 use std::alloc::Global;
 
@@ -32,7 +34,7 @@ pub fn run_script(alloc: Global, script: Script) -> Result<Transcript, NoMemory>
     )?;
     let requests = signed_requests(alloc, &script, clients.as_slice())?;
     let copies = request_copies(alloc, &script, requests.as_slice())?;
-    let replicas = replicas_of(alloc, script.sizes.as_slice())?;
+    let replicas = script_replicas(alloc, &script)?;
     let logs = logs_of(
         alloc,
         &script,

@@ -8,14 +8,14 @@ use Rattle.script_sim.proofs.running.run_script.Goals as goal
 
 pub simulate-requires-clause-named : goal.simulate-requires-clause-named
 simulate-requires-clause-named c =
-    let ids : c.as_slice-7.result.now ≡ replicas_of c.args.script = search rules in
+    let ids : c.as_slice-6.result.now ≡ replicas_of c.args.script = search rules in
     let logs : c.in_ok-logs.logs.items ≡ logs_of c.args.script = search rules in
-    named made journal shut c.args.script (λ i. refl) (λ i. refl) (λ i. refl) c.as_slice-7.result.now c.in_ok-logs.logs.items ids logs
+    named made journal shut c.args.script (λ i. refl) (λ i. refl) (λ i. refl) c.as_slice-6.result.now c.in_ok-logs.logs.items ids logs
 
 pub simulate-requires-clause-apart : goal.simulate-requires-clause-apart
 simulate-requires-clause-apart c =
-    let ids : c.as_slice-7.result.now ≡ replicas_of c.args.script = search rules in
-    distinct c.args.script c.as_slice-7.result.now (sane c.args.script c.requires).apart ids
+    let ids : c.as_slice-6.result.now ≡ replicas_of c.args.script = search rules in
+    distinct c.args.script c.as_slice-6.result.now (sane c.args.script c.requires).apart ids
 
 pub simulate-requires-clause-fresh : goal.simulate-requires-clause-fresh
 simulate-requires-clause-fresh c =
