@@ -183,7 +183,9 @@ impl State {
         ensures same { IsSame self.old self.new }
     {
         let mut told = self.hear(message)?;
-        outs.append(&mut told.outs)
+        let added = outs.append(&mut told.outs);
+        drop(told);
+        added
     }
 }
 

@@ -27,16 +27,19 @@ impl State {
             Message::Prepare(vote) => self.hear_prepare(vote),
             Message::Commit(vote) => self.hear_commit(vote),
             Message::Checkpoint(vote) => self.hear_checkpoint(vote),
-            Message::ViewChange(_)
+            other @ (Message::ViewChange(_)
             | Message::NewView(_)
             | Message::Drvc(_)
             | Message::Rvc(_)
             | Message::ReplyNote(_)
             | Message::Share(_)
-            | Message::Fetch(_) => Ok(Local {
-                answer: Answer::Heard(Take::Stray),
-                outs: Outs::new(self.alloc()),
-            }),
+            | Message::Fetch(_)) => {
+                drop(other);
+                Ok(Local {
+                    answer: Answer::Heard(Take::Stray),
+                    outs: Outs::new(self.alloc()),
+                })
+            }
         }
     }
 }

@@ -57,6 +57,7 @@ impl Order {
         ensures err { OnErr result (IsShut self.old self.new) }
     {
         if self.shut {
+            drop(message);
             return Err(NoMemory);
         }
         let told = self.state.hear(message);

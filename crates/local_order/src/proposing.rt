@@ -46,7 +46,10 @@ impl State {
         requires { AreWaiting self.now.roster self.now.me self.now.local.waiting }
         ensures { result ≡ can_propose self.now.roster self.now.me self.now.local nudged known }
     {
-        self.reason(nudged, known).is_none()
+        let reason = self.reason(nudged, known);
+        let is_due = reason.is_none();
+        drop(reason);
+        is_due
     }
 
     /// Why no batch is proposed: the first that holds of `Changing`, `NotPrimary`, `WindowFull` and `Waiting`. `None` exactly where one is.

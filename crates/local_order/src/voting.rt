@@ -74,8 +74,13 @@ impl State {
     pub(crate) fn to_cluster(&self, message: Message) -> Result<Out, NoMemory>
         ensures { IfOk result (λ out. out ≡ to_cluster self.now.roster self.now.me message) }
     {
-        let to = self.cluster()?;
-        Ok(Out::Put(Item { message, to }))
+        match self.cluster() {
+            Ok(to) => Ok(Out::Put(Item { message, to })),
+            Err(NoMemory) => {
+                drop(message);
+                Err(NoMemory)
+            }
+        }
     }
 
     /// A copy of the slot's batch, or the null batch.
@@ -201,6 +206,8 @@ impl State {
     {
         if matches!(answer, Take::Ahead { .. } | Take::Far { .. }) {
             self.kept.push(message)?;
+        } else {
+            drop(message);
         }
         Ok(Local {
             answer: Answer::Heard(answer),
