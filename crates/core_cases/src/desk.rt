@@ -8,7 +8,7 @@ use crate::node::{Node, Seat, Turn};
 use crate::rounds::Alone;
 use crate::words::{Text, Unanswered, at, plain, replica, shown};
 use fab_base::{NoMemory, ReplicaId};
-use replica_core::Mover;
+use replica_core::{Answer, Mover};
 use std::alloc::Global;
 
 /// What the cases so far have declared and begun.
@@ -101,10 +101,7 @@ impl Desk {
 fn of_replica(alloc: Global, fabric: &mut Fabric, declared: &Declared, line: &str) -> Text {
     let id = replica(at(line, 1))?;
     match at(line, 0) {
-        "hear" => {
-            let message = message(alloc, fabric, declared, line)?;
-            answer_words(alloc, &fabric.node_mut(id)?.seat.hear(message)?)
-        }
+        "hear" => hear(alloc, fabric, declared, id, line),
         "next" => mail(alloc, fabric, id, Turn::Oldest),
         "last" => mail(alloc, fabric, id, Turn::Newest),
         "batch" => act(alloc, fabric, id, Mover::Batch),
@@ -114,6 +111,18 @@ fn of_replica(alloc: Global, fabric: &mut Fabric, declared: &Declared, line: &st
         "checkpoint" => act(alloc, fabric, id, Mover::Checkpoint),
         word => asked(alloc, fabric.node(id)?, word),
     }
+}
+
+/// Hears the message that the line tells of.
+fn hear(
+    alloc: Global,
+    fabric: &mut Fabric,
+    declared: &Declared,
+    id: ReplicaId,
+    line: &str,
+) -> Text {
+    let message = message(alloc, fabric, declared, line)?;
+    answer_words(alloc, &fabric.feed(id, message)?)
 }
 
 /// Hears one of its mail.
@@ -127,8 +136,13 @@ fn mail(alloc: Global, fabric: &mut Fabric, id: ReplicaId, turn: Turn) -> Text {
 /// An event of its own. What is sent is delivered.
 fn act(alloc: Global, fabric: &mut Fabric, id: ReplicaId, mover: Mover) -> Text {
     let answer = fabric.node_mut(id)?.seat.act(mover)?;
-    fabric.deliver(&answer)?;
-    answer_words(alloc, &answer)
+    delivered(alloc, fabric, &answer)
+}
+
+/// An answer as words. What it sends is delivered first.
+fn delivered(alloc: Global, fabric: &mut Fabric, answer: &Answer) -> Text {
+    fabric.deliver(answer)?;
+    answer_words(alloc, answer)
 }
 
 /// What it is asked: what waits at it, what would move it, and what its low mark is.

@@ -119,17 +119,39 @@ impl Fabric {
             return Ok(None);
         };
         let message = letter(&self.letters, number)?;
-        Ok(Some(self.node_mut(id)?.seat.hear(message)?))
+        Ok(Some(self.feed(id, message)?))
+    }
+
+    /// The replica hears this message.
+    pub(crate) fn feed(&mut self, id: ReplicaId, message: Message) -> Result<Answer, Unanswered> {
+        self.node_mut(id)?.seat.hear(message)
+    }
+
+    /// One event of the replica at a place, if it has one in this turn. Answers whether there was one.
+    fn turn(&mut self, place: usize, turn: Turn) -> Result<bool, Unanswered> {
+        let Some(node) = self.nodes.get_mut(place) else {
+            return Ok(false);
+        };
+        let answer = node.turn(&self.letters, turn)?;
+        self.deliver_any(&answer)
+    }
+
+    /// Delivers what an answer sends, if there is an answer. Answers whether there is.
+    fn deliver_any(&mut self, answer: &Option<Answer>) -> Result<bool, Unanswered> {
+        match answer {
+            Some(answer) => {
+                self.deliver(answer)?;
+                Ok(true)
+            }
+            None => Ok(false),
+        }
     }
 
     /// One event of each replica that has one in this turn. Answers how many there were.
     fn pass(&mut self, turn: Turn) -> Result<u32, Unanswered> {
         let mut events = 0u32;
         for place in 0..self.nodes.len() {
-            if let Some(node) = self.nodes.get_mut(place)
-                && let Some(answer) = node.turn(&self.letters, turn)?
-            {
-                self.deliver(&answer)?;
+            if self.turn(place, turn)? {
                 events = events.saturating_add(1);
             }
         }

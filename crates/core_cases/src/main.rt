@@ -55,9 +55,13 @@ use desk::Desk;
 use std::io;
 
 fn main(rt: HostRuntime) -> io::Result<()> {
-    let alloc = rt.alloc();
-    let mut desk = Desk::new(alloc)?;
-    for line in rt.lines(alloc) {
+    let mut desk = Desk::new(rt.alloc())?;
+    answer_lines(rt, &mut desk)
+}
+
+/// Answers the lines of standard input, one after another.
+fn answer_lines(rt: HostRuntime, desk: &mut Desk) -> io::Result<()> {
+    for line in rt.lines(rt.alloc()) {
         let line = line?;
         if line.is_empty() || line.starts_with('#') {
             println!(rt; "{line}")?;

@@ -1,6 +1,7 @@
 //! One replica with its mail.
 ghost use Rattle.std.specs.Prelude.{◌≡◌, IfOk, IsTrue};
 ghost use Rattle.fab_base.specs.Roster.{is_replica};
+ghost use Rattle.fab_rules.specs.Format.{fits};
 
 use crate::words::Unanswered;
 use bft_msg::{Shaped, fits, shape};
@@ -44,12 +45,11 @@ impl Seat {
     pub(crate) fn new(alloc: Global, members: &Members, id: ReplicaId) -> Result<Seat, NoMemory>
         requires { IsTrue (is_replica members.now id) }
     {
-        let core = core(alloc, members.share()?, id)?;
-        let members = members.share()?;
+        let (kept, given) = (members.share()?, members.share()?);
         Ok(Seat {
             alloc,
-            members,
-            core,
+            members: kept,
+            core: core(alloc, given, id)?,
         })
     }
 
@@ -156,14 +156,23 @@ impl Node {
     }
 }
 
-/// The message, where it is well formed for the members.
+/// The message, where it has a spelling and is well formed for the members.
 fn shaped(members: &Members, message: Message) -> Result<Shaped, Unanswered>
     ensures { IfOk result (λ shaped. shaped.members ≡ members.now) }
 {
-    if !fits(&message) {
-        return Err(Unanswered::Unreadable);
+    if fits(&message) {
+        well_formed(members.share()?, message)
+    } else {
+        Err(Unanswered::Unreadable)
     }
-    match shape(members.share()?, message) {
+}
+
+/// A message that has a spelling, where it is well formed for the members.
+fn well_formed(members: Members, message: Message) -> Result<Shaped, Unanswered>
+    requires { IsTrue (fits message) }
+    ensures { IfOk result (λ shaped. shaped.members ≡ members) }
+{
+    match shape(members, message) {
         Ok(shaped) => Ok(shaped),
         Err((misfit, _)) => Err(Unanswered::Misshapen(misfit)),
     }
