@@ -5,12 +5,9 @@ use Rattle.fab_base.specs.Limits.{Roster}
 use Rattle.fab_base.specs.declared.ids.ReplicaId.{ReplicaId}
 use Rattle.fab_machine.specs.State.{Replica, fresh}
 use Rattle.fab_machine.specs.Step.{step}
-use Rattle.fab_machine.specs.Step as machine
 use Rattle.fab_machine.specs.Diaries.{MayCome, state_from, state_of}
 use Rattle.bft_verify.proofs.Soundness.{shaped_from_sound}
-use Rattle.replica_core.specs.Cores.{Machine, with_state, stepped}
-use Rattle.replica_core.specs.Cores as cores
-use Rattle.replica_core.specs.declared.events.Event as told
+use Rattle.replica_core.specs.Cores.{Machine, with_state}
 use Rattle.run_words.specs.declared.logs.Entry.{Entry}
 use Rattle.run_words.specs.Journal.{Maker, event_of, state, AreSound}
 
@@ -24,18 +21,18 @@ state_from_more r me s [] e = refl
 state_from_more r me s (x ∷ rest) e = state_from_more r me (step r me s (event_of x)).state rest e
 
 -- an entry more
-pub replays_more : (members : Roster) (me : ReplicaId) (journal : List Entry) (k : ℕ) (d : Entry) (old new : Machine) (event : told.Event)
-    → k < length journal → old ≡ replayed members me (take k journal) → cores.event_of event ≡ event_of (get_or journal k d)
-    → new ≡ with_state old (stepped old event).state
+pub replays_more : (members : Roster) (me : ReplicaId) (journal : List Entry) (k : ℕ) (e : Entry) (old new : Machine)
+    → k < length journal → old ≡ replayed members me (take k journal) → e ≡ get_or journal k e
+    → new ≡ with_state old (step old.roster old.me old.state (event_of e)).state
     → new ≡ replayed members me (take (k + 1) journal)
-replays_more members me journal k d old new event lt is same done =
+replays_more members me journal k e old new lt is there done =
     let core : Replica → Machine = λ s. record { roster = members; me = me; state = s; shut = false } in
     let before = state_of members me (map event_of (take k journal)) in
     done
-    ∙ ap (λ (c : Machine). with_state c (stepped c event).state) is
-    ∙ ap (λ (e : machine.Event). core (step members me before e).state) same
-    ∙ ap core (sym (state_from_more members me (fresh members me) (take k journal) (get_or journal k d)))
-    ∙ ap (replayed members me) (sym (take_more journal k d lt))
+    ∙ ap (λ (c : Machine). with_state c (step c.roster c.me c.state (event_of e)).state) is
+    ∙ ap (λ (x : Entry). core (step members me before (event_of x)).state) there
+    ∙ ap core (sym (state_from_more members me (fresh members me) (take k journal) (get_or journal k e)))
+    ∙ ap (replayed members me) (sym (take_more journal k e lt))
 
 -- all entries
 pub replays_all : (members : Roster) (me : ReplicaId) (journal : List Entry) (k : ℕ) (core : Machine) (m : Maker) → length journal ≤ k

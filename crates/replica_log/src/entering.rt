@@ -74,6 +74,8 @@ fn enter_where(made: bool, entry: NewEntry, journal: &mut Vec<Entry>)
 {
     if made {
         entry.enter(journal);
+    } else {
+        drop(entry);
     }
 }
 

@@ -95,7 +95,12 @@ impl<S: Signer + Drop> Keeper<S> {
         ensures enters { OnOk result (Enters S.limit S.made S.gives self.old (entries.Entry.Heard origin heard.message) self.new) }
         ensures stays { OnErr result (Stays S.limit S.made S.gives self.old self.new) }
     {
-        let hearing = prepared(self.clock, &mut self.journal, origin, &heard)?;
-        self.take(hearing, heard)
+        match prepared(self.clock, &mut self.journal, origin, &heard) {
+            Ok(hearing) => self.take(hearing, heard),
+            Err(NoMemory) => {
+                drop(heard);
+                Err(NoMemory)
+            }
+        }
     }
 }

@@ -28,6 +28,7 @@ impl<S: Signer + Drop> Keeper<S> {
     {
         let alloc = *self.journal.allocator();
         let unsent = self.core.waiting() as u64;
+        drop(self.core);
         Trace {
             id: self.me,
             fault: None,
@@ -47,7 +48,12 @@ impl<S: Signer + Drop> Keeper<S> {
         ensures live { IsLive S.limit S.gives self → IfOk result (λ trace. trace ≡ trace_of (maker_of S.limit S.gives self) self.journal.items []) }
         ensures but { IfOk result (λ trace. IsTraceBut (maker_of S.limit S.gives self) self.journal.items trace) }
     {
-        let parcels = self.parcels()?;
-        Ok(self.into_trace(parcels))
+        match self.parcels() {
+            Ok(parcels) => Ok(self.into_trace(parcels)),
+            Err(NoMemory) => {
+                drop(self);
+                Err(NoMemory)
+            }
+        }
     }
 }

@@ -33,6 +33,7 @@ impl<S: Signer + Drop> Party for ReplicaLog<S> {
 
     fn act(&mut self, act: Act) -> Told {
         if self.shut {
+            drop(act);
             return Told::NoMemory;
         }
         let told = self.keeper.act(act);

@@ -1,7 +1,9 @@
 //! The replay of a journal.
-ghost use Rattle.std.specs.Prelude.{◌≡◌, false, IfOk, IsTrue};
+ghost use Rattle.std.specs.Prelude.{◌≡◌, false, IfOk, OnOk, IsTrue};
 ghost use Rattle.fab_base.specs.Roster.{is_replica};
 ghost use Rattle.fab_rules.specs.Shape.{IsShaped};
+ghost use Rattle.fab_machine.specs.State.{fresh};
+ghost use Rattle.fab_machine.specs.Step.{step};
 ghost use Rattle.fab_machine.specs.Diaries.{MayCome};
 ghost use Rattle.bft_verify.specs.Sound.{signature_of};
 ghost use Rattle.replica_core.specs.Cores as cores;
@@ -59,6 +61,35 @@ fn event(alloc: Global, members: &Members, entry: &Entry) -> Result<Event, NoMem
     }
 }
 
+/// Goes on by an entry of a journal. After a refusal of memory nothing is said of the replica's state.
+fn redo(alloc: Global, members: &Members, replica: &mut Core, entry: &Entry) -> Result<(), NoMemory>
+    requires members { replica.old.roster ≡ members.now }
+    requires comes { MayCome members.now (journals.event_of entry.now) }
+    ensures { OnOk result (replica.new ≡ cores.with_state replica.old (step replica.old.roster replica.old.me replica.old.state (journals.event_of entry.now)).state) }
+{
+    let event = event(alloc, members, entry)?;
+    drop(replica.step(event)?);
+    Ok(())
+}
+
+/// Goes on by the entries of a journal, in order, from the empty state. After a refusal of memory nothing is said of the replica's state.
+fn redo_all(
+    alloc: Global,
+    members: &Members,
+    replica: &mut Core,
+    journal: &[Entry],
+) -> Result<(), NoMemory>
+    requires empty { replica.old ≡ record { roster = members.now; me = replica.old.me; state = fresh members.now replica.old.me; shut = false } }
+    requires sound { (m : Maker) × (m.roster ≡ members.now) × AreSound m journal.now }
+    ensures { OnOk result ((m : Maker) → m.roster ≡ members.now → m.id ≡ replica.old.me
+        → replica.new ≡ record { roster = members.now; me = replica.old.me; state = state m journal.now; shut = false }) }
+{
+    for entry in journal {
+        redo(alloc, members, replica, entry)?;
+    }
+    Ok(())
+}
+
 /// The core of a replica after the entries of a journal: what its machine is after the journal's events, in order, from the empty state.
 /// The journal is one that the replica's machine makes, and each message that it heard is sound, for whatever else the replica was made
 /// with (its keys). It fails only where memory is refused.
@@ -74,9 +105,11 @@ pub fn replay(
         → core ≡ record { roster = members; me = me; state = state m journal.now; shut = false }) }
 {
     let mut replica = core(alloc, members.share()?, me)?;
-    for entry in journal {
-        let event = event(alloc, &members, entry)?;
-        let _answer = replica.step(event)?;
+    match redo_all(alloc, &members, &mut replica, journal) {
+        Ok(()) => Ok(replica),
+        Err(NoMemory) => {
+            drop(replica);
+            Err(NoMemory)
+        }
     }
-    Ok(replica)
 }
