@@ -1,4 +1,4 @@
-use Rattle.std.proofs.Common.{ℕ, max, ◌∙◌, ap, sym, add_comm}
+use Rattle.std.proofs.Common.{max, ◌∙◌, ap, sym, add_comm}
 use Rattle.run_words.specs.Journal.{tick_by}
 use Rattle.replica_log.proofs.hearing.ticked.Goals as goal
 
