@@ -56,34 +56,40 @@ module _ {S : Type 0} {E : Type 0} (limit made : S → ℕ) (gives : S → ℕ �
         whole = record { whole = record { same = v.whole.same; journal_is = refl; kept = v.whole.kept }; live = v.live };
       }
 
-  acted_as : (act done : Act) (event : machine.Event) (e : Entry) → act ≡ done → IsBy (maker_of limit gives old) old.journal.items done event e
-      → (r : Result Answer E) (t : Result Told E) → t ≡ told_by r
+  acted_as : (act done : Act) (event : machine.Event) (e entry : Entry) → act ≡ done → IsBy (maker_of limit gives old) old.journal.items done event e
+      → entry ≡ e → (r : Result Answer E) (t : Result Told E) → t ≡ told_by r
       → IfOk r (λ answer. answer ≡ answer_to (maker_of limit gives old) old.journal.items event)
-      → IfOk r (λ answer. Moves limit made gives old e (makes_entry answer) now)
+      → IfOk r (λ answer. Moves limit made gives old entry (makes_entry answer) now)
       → HaveActed act t
-  acted_as act done event e is by r t told a v =
-      subst (HaveActed act) (sym told) (subst (λ (x : Act). HaveActed x (told_by r)) (sym is) (acted_by done event e by r a v))
+  acted_as act done event e entry is by entry_is r t told a v =
+      subst (HaveActed act) (sym told)
+      (subst (λ (x : Act). HaveActed x (told_by r)) (sym is)
+      (acted_by done event e by r a (subst (λ (x : Entry). IfOk r (λ answer. Moves limit made gives old x (makes_entry answer) now)) entry_is v)))
 
-  pub batch_acted : (act : Act) (r : Result Answer E) (t : Result Told E) → act ≡ Act.Batch → t ≡ told_by r
+  pub batch_acted : (act : Act) (entry : Entry) (r : Result Answer E) (t : Result Told E) → act ≡ Act.Batch → entry ≡ Entry.Proposed → t ≡ told_by r
       → IfOk r (λ answer. answer ≡ answer_to (maker_of limit gives old) old.journal.items machine.Event.Batch)
-      → IfOk r (λ answer. Moves limit made gives old Entry.Proposed (makes_entry answer) now)
+      → IfOk r (λ answer. Moves limit made gives old entry (makes_entry answer) now)
       → HaveActed act t
-  batch_acted act r t is told = acted_as act Act.Batch machine.Event.Batch Entry.Proposed is (batch (maker_of limit gives old) old.journal.items) r t told
+  batch_acted act entry r t is made_is told =
+      acted_as act Act.Batch machine.Event.Batch Entry.Proposed entry is (batch (maker_of limit gives old) old.journal.items) made_is r t told
 
-  pub nudge_acted : (act : Act) (r : Result Answer E) (t : Result Told E) → act ≡ Act.Nudge → t ≡ told_by r
+  pub nudge_acted : (act : Act) (entry : Entry) (r : Result Answer E) (t : Result Told E) → act ≡ Act.Nudge → entry ≡ Entry.Nudged → t ≡ told_by r
       → IfOk r (λ answer. answer ≡ answer_to (maker_of limit gives old) old.journal.items machine.Event.Nudge)
-      → IfOk r (λ answer. Moves limit made gives old Entry.Nudged (makes_entry answer) now)
+      → IfOk r (λ answer. Moves limit made gives old entry (makes_entry answer) now)
       → HaveActed act t
-  nudge_acted act r t is told = acted_as act Act.Nudge machine.Event.Nudge Entry.Nudged is (nudge (maker_of limit gives old) old.journal.items) r t told
+  nudge_acted act entry r t is made_is told =
+      acted_as act Act.Nudge machine.Event.Nudge Entry.Nudged entry is (nudge (maker_of limit gives old) old.journal.items) made_is r t told
 
-  pub execute_acted : (act : Act) (r : Result Answer E) (t : Result Told E) → act ≡ Act.Execute → t ≡ told_by r
+  pub execute_acted : (act : Act) (entry : Entry) (r : Result Answer E) (t : Result Told E) → act ≡ Act.Execute → entry ≡ Entry.Executed → t ≡ told_by r
       → IfOk r (λ answer. answer ≡ answer_to (maker_of limit gives old) old.journal.items machine.Event.Execute)
-      → IfOk r (λ answer. Moves limit made gives old Entry.Executed (makes_entry answer) now)
+      → IfOk r (λ answer. Moves limit made gives old entry (makes_entry answer) now)
       → HaveActed act t
-  execute_acted act r t is told = acted_as act Act.Execute machine.Event.Execute Entry.Executed is (execute (maker_of limit gives old) old.journal.items) r t told
+  execute_acted act entry r t is made_is told =
+      acted_as act Act.Execute machine.Event.Execute Entry.Executed entry is (execute (maker_of limit gives old) old.journal.items) made_is r t told
 
-  pub checkpoint_acted : (act : Act) (r : Result Answer E) (t : Result Told E) → act ≡ Act.Checkpoint → t ≡ told_by r
+  pub checkpoint_acted : (act : Act) (entry : Entry) (r : Result Answer E) (t : Result Told E) → act ≡ Act.Checkpoint → entry ≡ Entry.Marked → t ≡ told_by r
       → IfOk r (λ answer. answer ≡ answer_to (maker_of limit gives old) old.journal.items machine.Event.Checkpoint)
-      → IfOk r (λ answer. Moves limit made gives old Entry.Marked (makes_entry answer) now)
+      → IfOk r (λ answer. Moves limit made gives old entry (makes_entry answer) now)
       → HaveActed act t
-  checkpoint_acted act r t is told = acted_as act Act.Checkpoint machine.Event.Checkpoint Entry.Marked is (checkpoint (maker_of limit gives old) old.journal.items) r t told
+  checkpoint_acted act entry r t is made_is told =
+      acted_as act Act.Checkpoint machine.Event.Checkpoint Entry.Marked entry is (checkpoint (maker_of limit gives old) old.journal.items) made_is r t told

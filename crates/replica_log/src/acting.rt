@@ -5,10 +5,12 @@ ghost use Rattle.run_words.specs.Acts.{IsFor};
 ghost use Rattle.replica_log.specs.Acting.{told_by, told_anyway};
 ghost use Rattle.replica_log.specs.Keeping.{maker_of, Keeps, IsLive, Stays, HasActed, MayBeTold, IsEmit};
 
+use crate::entering::NewEntry;
 use crate::keepers::Keeper;
 use fab_base::{Answer, NoMemory};
 use lms_tree::Signer;
-use run_words::{Act, Told};
+use replica_core::Event;
+use run_words::{Act, Entry, Told};
 
 /// What is told of an act of the core.
 fn told(answer: Result<Answer, NoMemory>) -> Result<Told, NoMemory>
@@ -44,10 +46,10 @@ impl<S: Signer + Drop> Keeper<S> {
     {
         match act {
             Act::Hear(origin, heard) => told(self.hear(origin, heard)),
-            Act::Batch => told(self.propose()),
-            Act::Nudge => told(self.nudge()),
-            Act::Execute => told(self.execute()),
-            Act::Checkpoint => told(self.checkpoint()),
+            Act::Batch => told(self.advance(Event::Batch, NewEntry::new(Entry::Proposed))),
+            Act::Nudge => told(self.advance(Event::Nudge, NewEntry::new(Entry::Nudged))),
+            Act::Execute => told(self.advance(Event::Execute, NewEntry::new(Entry::Executed))),
+            Act::Checkpoint => told(self.advance(Event::Checkpoint, NewEntry::new(Entry::Marked))),
             Act::Emit => Ok(told_anyway(self.emit())),
         }
     }

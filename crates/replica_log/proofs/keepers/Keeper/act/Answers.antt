@@ -3,20 +3,20 @@ use Rattle.replica_log.proofs.keepers.Keeper.act.Goals as goal
 
 pub returns-in-Batch-clause-acted : goal.returns-in-Batch-clause-acted
 returns-in-Batch-clause-acted g c =
-    batch_acted g.S.Signer.limit g.S.Signer.made g.S.Signer.gives c.args.self.now c.propose.new.self c.args.act c.propose.result c.told-in-Batch.result
-    c.in-Batch.is c.told-in-Batch.ensures c.propose.ensures.answer c.propose.ensures.moves
+    batch_acted g.S.Signer.limit g.S.Signer.made g.S.Signer.gives c.args.self.now c.advance.new.self c.args.act c.new.result c.advance.result
+    c.told-in-Batch.result c.in-Batch.is c.new.ensures c.told-in-Batch.ensures c.advance.ensures.answer c.advance.ensures.moves
 
 pub returns-in-Nudge-clause-acted : goal.returns-in-Nudge-clause-acted
 returns-in-Nudge-clause-acted g c =
-    nudge_acted g.S.Signer.limit g.S.Signer.made g.S.Signer.gives c.args.self.now c.nudge.new.self c.args.act c.nudge.result c.told-in-Nudge.result
-    c.in-Nudge.is c.told-in-Nudge.ensures c.nudge.ensures.answer c.nudge.ensures.moves
+    nudge_acted g.S.Signer.limit g.S.Signer.made g.S.Signer.gives c.args.self.now c.advance-in-Nudge.new.self c.args.act c.new-in-Nudge.result c.advance-in-Nudge.result
+    c.told-in-Nudge.result c.in-Nudge.is c.new-in-Nudge.ensures c.told-in-Nudge.ensures c.advance-in-Nudge.ensures.answer c.advance-in-Nudge.ensures.moves
 
 pub returns-in-Execute-clause-acted : goal.returns-in-Execute-clause-acted
 returns-in-Execute-clause-acted g c =
-    execute_acted g.S.Signer.limit g.S.Signer.made g.S.Signer.gives c.args.self.now c.execute.new.self c.args.act c.execute.result c.told-in-Execute.result
-    c.in-Execute.is c.told-in-Execute.ensures c.execute.ensures.answer c.execute.ensures.moves
+    execute_acted g.S.Signer.limit g.S.Signer.made g.S.Signer.gives c.args.self.now c.advance-in-Execute.new.self c.args.act c.new-in-Execute.result c.advance-in-Execute.result
+    c.told-in-Execute.result c.in-Execute.is c.new-in-Execute.ensures c.told-in-Execute.ensures c.advance-in-Execute.ensures.answer c.advance-in-Execute.ensures.moves
 
 pub returns-in-Checkpoint-clause-acted : goal.returns-in-Checkpoint-clause-acted
 returns-in-Checkpoint-clause-acted g c =
-    checkpoint_acted g.S.Signer.limit g.S.Signer.made g.S.Signer.gives c.args.self.now c.checkpoint.new.self c.args.act c.checkpoint.result c.told-in-Checkpoint.result
-    c.in-Checkpoint.is c.told-in-Checkpoint.ensures c.checkpoint.ensures.answer c.checkpoint.ensures.moves
+    checkpoint_acted g.S.Signer.limit g.S.Signer.made g.S.Signer.gives c.args.self.now c.advance-in-Checkpoint.new.self c.args.act c.new-in-Checkpoint.result c.advance-in-Checkpoint.result
+    c.told-in-Checkpoint.result c.in-Checkpoint.is c.new-in-Checkpoint.ensures c.told-in-Checkpoint.ensures c.advance-in-Checkpoint.ensures.answer c.advance-in-Checkpoint.ensures.moves
