@@ -1,3 +1,4 @@
 pub mod Outs
 pub mod Machines
+mod Noting
 mod Within

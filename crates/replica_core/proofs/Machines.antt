@@ -1,5 +1,6 @@
 -- What a step keeps, as the laws of the machine say it.
-use Rattle.std.proofs.Common.{◌≡◌, Bool, false, List, sym, subst}
+use Rattle.std.proofs.Common.{◌≡◌, Bool, false, List, Result, Ok, Err, refl, sym, subst, ◌∙◌}
+use Rattle.std.specs.Prelude.{OnOk, is_err}
 use Rattle.std.specs.Bool.{IsTrue}
 use Rattle.fab_base.specs.Limits.{IsWithinLimits}
 use Rattle.fab_base.specs.Roster.{is_replica}
@@ -10,30 +11,38 @@ use Rattle.fab_machine.specs.Relation.{AreRelated}
 use Rattle.fab_machine.proofs.Members.{is_member}
 use Rattle.fab_machine.proofs.ReplicaStates.{step_state}
 use Rattle.fab_machine.proofs.Steps.{step_keeps}
-use Rattle.replica_core.specs.Inside.{Assembly, with_state}
+use Rattle.replica_core.specs.Inside.{Assembly, IsSame, with_state}
 use Rattle.replica_core.specs.Cores.{Machine, IsCore}
 
-pub core_after : (old new : Assembly) (e : Event) → IsCore old false → MayCome old.roster e
-    → new ≡ with_state old (step old.roster old.me old.state e).state → IsCore new false
-core_after old new e is may same =
-    let now : IsCore (with_state old (step old.roster old.me old.state e).state) false = record {
+-- an event came to this and the replica stays open, or memory was refused and it is shut
+pub core_after : {T E : Type 0} (old new : Assembly) (e : Event) (told : Result T E) (shut : Bool) → IsCore old false → OnOk told (MayCome old.roster e)
+    → OnOk told (new ≡ with_state old (step old.roster old.me old.state e).state) → IsSame old new → shut ≡ is_err told → IsCore new shut
+core_after old new e (Err refused) shut is may state same s = record {
+  limits = subst IsWithinLimits (sym same.0) is.limits;
+  member = subst (λ r. IsTrue (is_replica r new.me)) (sym same.0) (subst (λ i. IsTrue (is_replica old.roster i)) (sym same.1) is.member);
+  whole = λ h. absurd (let both = sym s ∙ h in cc);
+  calm = λ h. absurd (let both = sym s ∙ h in cc);
+}
+core_after old new e (Ok answer) shut is may state same s =
+    let now : IsCore (with_state old (step old.roster old.me old.state e).state) shut = record {
       limits = is.limits;
       member = is.member;
-      whole = λ s. step_state old.roster old.me old.state e (is_member old.roster old.me is.limits is.member) may (is.whole s);
-      calm = is.calm;
+      whole = λ h. step_state old.roster old.me old.state e (is_member old.roster old.me is.limits is.member) may (is.whole refl);
+      calm = λ h. is.calm refl;
     } in
-    subst (λ p. IsCore p false) (sym same) now
+    subst (λ p. IsCore p shut) (sym state) now
 
 -- every diary that was related stays related, whatever is seen of the replica before
 abbrev pub Keeps : Machine → Event → Assembly → Type 0
 Keeps old e new =
     (diary : List Entry) → AreRelated old.roster old.me old.state diary → AreRelated new.roster new.me new.state (diary_after old.me old.state e new.state diary)
 
-pub honest_after : (seen : Machine) (old new : Assembly) (e : Event) (shut : Bool)
+pub honest_after : {T E : Type 0} (seen : Machine) (old new : Assembly) (e : Event) (told : Result T E) (shut : Bool)
     → (let now : Machine = record { roster = old.roster; me = old.me; state = old.state; shut = shut } in now) ≡ seen
-    → IsWithinLimits old.roster → IsTrue (is_replica old.roster old.me) → MayCome old.roster e
-    → new ≡ with_state old (step old.roster old.me old.state e).state → Keeps seen e new
-honest_after seen old new e shut view limits member may same =
+    → IsWithinLimits old.roster → IsTrue (is_replica old.roster old.me) → OnOk told (MayCome old.roster e)
+    → OnOk told (new ≡ with_state old (step old.roster old.me old.state e).state) → OnOk told (Keeps seen e new)
+honest_after seen old new e (Err refused) shut view limits member may same = tt
+honest_after seen old new e (Ok answer) shut view limits member may same =
     subst (λ m. Keeps m e new) view
     (λ diary related.
     subst (λ p. AreRelated p.roster p.me p.state (diary_after old.me old.state e p.state diary)) (sym same)

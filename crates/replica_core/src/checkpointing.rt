@@ -24,8 +24,7 @@ impl Parts {
         ensures same { IsSame self.old self.new }
     {
         let told = self.order.checkpoint()?;
-        self.take(told.outs)?;
-        Ok(told.answer)
+        self.follow(told)
     }
 
     /// Whether `checkpoint` would vote for a round or move the low mark. Takes no memory.

@@ -76,10 +76,10 @@ impl Parts {
         if let Some(block) = self.rounds.block(round, cluster)
             && let Some(outcomes) = self.rounds.outcomes(round, cluster)
         {
-            let item = note(alloc, self.me, block, outcomes, round)?;
             self.order
                 .served(round, &block.batch, outcomes, self.rounds.chain())?;
-            self.outbox.push_back(item)?;
+            self.outbox
+                .push_back(note(alloc, self.me, block, outcomes, round)?)?;
         }
         Ok(())
     }

@@ -24,7 +24,6 @@ impl Parts {
         ensures same { IsSame self.old self.new }
     {
         let told = self.order.hear(message)?;
-        self.take(told.outs)?;
-        Ok(told.answer)
+        self.follow(told)
     }
 }

@@ -28,8 +28,7 @@ impl Parts {
     {
         let known = self.knows_others();
         let told = self.order.propose(nudged, known)?;
-        self.take(told.outs)?;
-        Ok(told.answer)
+        self.follow(told)
     }
 
     /// Whether `propose` would propose. Takes no memory.

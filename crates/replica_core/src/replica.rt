@@ -68,12 +68,12 @@ impl Core {
         ensures honest { OnOk result (KeepsHonest self.old event self.new) }
     {
         if self.shut {
+            drop(event);
             return Err(NoMemory);
         }
-        self.shut = true;
-        let answer = self.parts.step(event)?;
-        self.shut = false;
-        Ok(answer)
+        let answer = self.parts.step(event);
+        self.shut = answer.is_err();
+        answer
     }
 
     /// Whether the event would make an entry in a journal, want of memory aside: true exactly where it would answer `Proposed`, `Sent`,

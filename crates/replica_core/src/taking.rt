@@ -1,5 +1,5 @@
 //! What local ordering brings about is taken over: items join the outbox, certificates are kept.
-ghost use Rattle.std.specs.Prelude.{◌≡◌, OnOk};
+ghost use Rattle.std.specs.Prelude.{◌≡◌, IfOk, OnOk};
 ghost use Rattle.fab_base.specs.declared.messages.CommitCert.{CommitCert};
 ghost use Rattle.fab_rules.specs.Lists.{In};
 ghost use Rattle.fab_machine.specs.ReplicaState.{IsKeptCertificate};
@@ -9,7 +9,9 @@ ghost use Rattle.replica_core.specs.Inside.{IsSame, with_state};
 
 use crate::NoMemory;
 use crate::parts::Parts;
+use fab_base::Answer;
 use fab_machine::{Out, Outs};
+use local_order::Local;
 
 impl Parts {
     /// Takes one over.
@@ -28,7 +30,7 @@ impl Parts {
     }
 
     /// Takes all of them over, in order.
-    pub(crate) fn take(&mut self, outs: Outs) -> Result<(), NoMemory>
+    fn take(&mut self, outs: Outs) -> Result<(), NoMemory>
         requires { (k : CommitCert) → In (Out.Certified k) outs → IsKeptCertificate self.old.roster k }
         ensures state { OnOk result (self.new ≡ with_state self.old (after_outs self.old.state outs)) }
         ensures same { IsSame self.old self.new }
@@ -37,5 +39,15 @@ impl Parts {
             self.take_one(out)?;
         }
         Ok(())
+    }
+
+    /// Takes over what local ordering told, and answers as it did.
+    pub(crate) fn follow(&mut self, told: Local) -> Result<Answer, NoMemory>
+        requires { (k : CommitCert) → In (Out.Certified k) told.outs → IsKeptCertificate self.old.roster k }
+        ensures answer { IfOk result (λ answer. answer ≡ told.answer) }
+        ensures state { OnOk result (self.new ≡ with_state self.old (after_outs self.old.state told.outs)) }
+        ensures same { IsSame self.old self.new }
+    {
+        self.take(told.outs).and(Ok(told.answer))
     }
 }

@@ -6,8 +6,8 @@ use Rattle.fab_machine.proofs.CheckpointStates.{checkpoint_state}
 use Rattle.replica_core.proofs.Outs.{kept_as}
 use Rattle.replica_core.proofs.parts.Parts.checkpoint.Goals as goal
 
-pub take-requires : goal.take-requires
-take-requires c =
+pub follow-requires : goal.follow-requires
+follow-requires c =
     let now = c.args.self.now in
     let roster = ap (λ o. o.roster) c.in_ok-told.ensures.state ∙ ap (λ a. a.roster) c.self.view_is in
     let outs = c.in_ok-told.ensures.outs ∙ ap (λ a. (checkpoint a.roster a.me a.state.local).outs) c.self.view_is in

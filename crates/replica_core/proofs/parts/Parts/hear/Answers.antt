@@ -6,8 +6,8 @@ use Rattle.fab_machine.proofs.States.{hear_state}
 use Rattle.replica_core.proofs.Outs.{kept_as}
 use Rattle.replica_core.proofs.parts.Parts.hear.Goals as goal
 
-pub take-requires : goal.take-requires
-take-requires c =
+pub follow-requires : goal.follow-requires
+follow-requires c =
     let now = c.args.self.now in
     let m = c.args.message in
     let roster = ap (λ o. o.roster) c.in_ok-told.ensures.state ∙ ap (λ a. a.roster) c.self.view_is in
