@@ -1,5 +1,5 @@
 -- How many items, from the first on, pass a test.
-use Rattle.std.proofs.Common.{◌≡◌, suc, ◌+◌, Bool, true, false, cond, not, ◌&&◌, List, [], ◌∷◌, length, take, Some, inl, inr, refl, ap, ◌∙◌, arith}
+use Rattle.std.proofs.Common.{◌≡◌, ℕ, suc, ◌+◌, ◌<◌, Bool, true, false, cond, not, ◌&&◌, List, [], ◌∷◌, length, take, drop, get_or, drop-cons, add-one, Some, inl, inr, refl, sym, ap, ◌∙◌, arith}
 use Rattle.std.specs.List.{prefix_len, find, slice_get}
 use Rattle.fab_rules.specs.Lists.{In}
 
@@ -38,3 +38,12 @@ first_not p (x ∷ xs) = go (p x) (first_not p xs)
         let on : 1 + prefix_len p xs ≡ suc (prefix_len p xs) = omega arith in
         ap (slice_get (x ∷ xs)) on ∙ h
     go false h = refl
+
+-- the next item passes too
+pub one_more_passes : {X : Type 0} (p : X → Bool) (xs : List X) (i : ℕ) (x : X) (n : ℕ) → i < length xs → x ≡ get_or xs i x
+    → i + prefix_len p (drop i xs) ≡ n → p x ≡ true → (i + 1) + prefix_len p (drop (i + 1) xs) ≡ n
+one_more_passes p xs i x n within is before passes =
+    let next : drop i xs ≡ x ∷ drop (i + 1) xs = drop-cons xs i x within ∙ (ap (λ y. y ∷ drop (suc i) xs) (sym is) ∙ rw add-one) in
+    let counted : prefix_len p (drop i xs) ≡ 1 + prefix_len p (drop (i + 1) xs) =
+    ap (prefix_len p) next ∙ ap (λ b. cond b (1 + prefix_len p (drop (i + 1) xs)) 0) passes in
+    omega arith

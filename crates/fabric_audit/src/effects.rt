@@ -58,7 +58,9 @@ fn stamps_of(alloc: Global, script: &Script, trace: &Trace) -> Result<[u32; NUMB
     ensures { IfOk result (λ stamps. stamps ≡ stamps_of script.now trace.now) }
 {
     let core = core_of(alloc, script, trace)?;
-    Ok(last_stamps(core.rounds().ledger().as_slice()))
+    let stamps = last_stamps(core.rounds().ledger().as_slice());
+    drop(core);
+    Ok(stamps)
 }
 
 /// How many requests, from the first on, took effect by these last stamps.

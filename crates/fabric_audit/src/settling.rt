@@ -84,7 +84,9 @@ fn is_still(alloc: Global, script: &Script, trace: &Trace) -> Result<bool, NoMem
 {
     let core = core_of(alloc, script, trace)?;
     let leaves = leaves(script) as u64;
-    Ok(is_still_at(trace.id, &core, leaves, trace.signed.len() as u64))
+    let still = is_still_at(trace.id, &core, leaves, trace.signed.len() as u64);
+    drop(core);
+    Ok(still)
 }
 
 /// Whether no event would make an entry at any of the replicas.
