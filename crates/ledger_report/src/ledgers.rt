@@ -30,7 +30,9 @@ fn push_replayed(
     ensures blocks { IfOk result (λ blocks. blocks ≡ length (ledger_after members.now trace.now)) }
 {
     let core = replayed(alloc, members, trace)?;
-    push_ledger(text, members.clusters(), trace.id, core.rounds())
+    let blocks = push_ledger(text, members.clusters(), trace.id, core.rounds());
+    drop(core);
+    blocks
 }
 
 /// Adds a line for each replica's ledger, and answers the trace of the first replica with the longest one. `None` comes where no ledger

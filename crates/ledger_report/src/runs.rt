@@ -50,14 +50,16 @@ fn push_run(
     ensures { OnOk result (text.new.items ≡ text.old.items ++ run_text traces.now (empty_state (length members.now.homes)) (ledger_after members.now trace.now)) }
 {
     let core = replayed(alloc, members, trace)?;
-    push_rounds(
+    let pushed = push_rounds(
         alloc,
         text,
         traces,
         core.rounds(),
         members.clusters(),
         clients,
-    )
+    );
+    drop(core);
+    pushed
 }
 
 /// Adds the lines of the longest ledger's blocks, and then the table that they leave, of so many clients. Where no ledger has a block,
