@@ -1,6 +1,6 @@
 -- Sums over lists.
-use Rattle.std.proofs.Common.{◌≡◌, ℕ, ◌+◌, List, [], ◌∷◌, map, length, sum_by, inl, inr, refl, sym, arith}
-use Rattle.std.proofs.lemmas.List.Sums.{sum_by-cons}
+use Rattle.std.proofs.Common.{◌≡◌, ℕ, ◌+◌, ◌<◌, List, [], ◌∷◌, map, take, length, get_or, sum_by, inl, inr, refl, sym, ap, ◌∙◌, arith}
+use Rattle.std.proofs.lemmas.List.Sums.{sum_by-cons, sum_by_more}
 use Rattle.fab_rules.specs.Lists.{In}
 
 pub sum_same : {X : Type 0} (f g : X → ℕ) (xs : List X) → ((x : X) → In x xs → f x ≡ g x) → sum_by f xs ≡ sum_by g xs
@@ -51,3 +51,9 @@ sum_swap f (x ∷ xs) ys =
     let b = sum_same (λ y. sum_by (λ z. f z y) (x ∷ xs)) (λ y. f x y + sum_by (λ z. f z y) xs) ys (λ y i. sum_by-cons (λ z. f z y) x xs) in
     let c = sum_both (f x) (λ y. sum_by (λ z. f z y) xs) ys in
     omega arith
+
+-- one item more, as at a step of a loop
+pub sum_more : {X : Type 0} (f : X → ℕ) (xs : List X) (i : ℕ) (x : X) (sum more now : ℕ) → i < length xs → x ≡ get_or xs i x
+    → sum ≡ sum_by f (take i xs) → more ≡ f x → now ≡ sum + more → now ≡ sum_by f (take (i + 1) xs)
+sum_more f xs i x sum more now lt is before here after =
+    after ∙ ap (λ n. n + more) before ∙ ap (λ n. sum_by f (take i xs) + n) (here ∙ ap f is) ∙ sym (sum_by_more f xs i x lt)

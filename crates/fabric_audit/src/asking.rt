@@ -21,7 +21,9 @@ fn asked_content(alloc: Global, wish: &Wish) -> Result<Bytes, NoMemory>
         sig: Rows::new(alloc),
     };
     let mut content = Vec::new(alloc);
-    put_request_content(&mut content, &request)?;
+    let put = put_request_content(&mut content, &request);
+    drop(request);
+    put?;
     Ok(Bytes::from_vec(content))
 }
 

@@ -94,6 +94,18 @@ fn audit_run(alloc: Global, makers: &Makers, null: &Batch) -> Result<(), Stop>
     audit_journals(makers, &mut meetings, makers.transcript().traces.as_slice())
 }
 
+/// The first evidence in a whole run, where there is any. It fails only where memory is refused.
+fn evidence(alloc: Global, makers: &Makers) -> Result<Option<Evidence>, NoMemory>
+    requires { IsTrue (list_all journal_fits makers.now.traces) }
+    ensures { IfOk result (λ found. found ≡ first_evidence makers.now) }
+{
+    match audit_run(alloc, makers, &Batch::new(alloc)) {
+        Ok(()) => Ok(None),
+        Err(Stop::Found(evidence)) => Ok(Some(evidence)),
+        Err(Stop::NoMemory) => Err(NoMemory),
+    }
+}
+
 /// The first evidence against the premises of agreement, where there is any: a statement that a replica heard under the name of a signer
 /// who never made it, or two batches that share a digest. The replicas are gone through by id, what each heard in its order, and of each
 /// message first its parts, then its batches. Any transcript that logs may hold is judged, lawful or not. It fails only where memory is
@@ -104,9 +116,5 @@ pub fn audit(alloc: Global, transcript: &Transcript) -> Result<Option<Evidence>,
 {
     let asked = asked_contents(alloc, transcript.script.requests.as_slice())?;
     let makers = Makers::of(alloc, transcript, asked.as_slice())?;
-    match audit_run(alloc, &makers, &Batch::new(alloc)) {
-        Ok(()) => Ok(None),
-        Err(Stop::Found(evidence)) => Ok(Some(evidence)),
-        Err(Stop::NoMemory) => Err(NoMemory),
-    }
+    evidence(alloc, &makers)
 }

@@ -1,0 +1,29 @@
+use Rattle.std.proofs.Common.{◌&&◌, get_or, sym, ap, subst, take_all, ◌∙◌}
+use Rattle.std.specs.List.{list_all}
+use Rattle.std.proofs.lemmas.List.Folds.{list_all_at, list_all_more}
+use Rattle.fabric_audit.specs.Replayed.{IsReplayable}
+use Rattle.fabric_audit.specs.Still.{is_still}
+use Rattle.fabric_audit.proofs.settling.are_still.Goals as goal
+
+pub is_still-requires-clause-kept : goal.is_still-requires-clause-kept
+is_still-requires-clause-kept c =
+    subst (IsReplayable c.args.script.now) (sym c.trace-item.is)
+    (c.requires.kept c.loop-trace.trace-index c.trace-item.result c.loop-trace-test.true)
+
+pub loop-trace-preserved : goal.loop-trace-preserved
+loop-trace-preserved c =
+    let still = is_still c.args.script.now in
+    let trace = c.trace-item.result in
+    list_all_more still c.args.traces.now c.loop-trace.trace-index trace c.loop-trace-test.true
+    ∙ ap (λ b. b && still (get_or c.args.traces.now c.loop-trace.trace-index trace)) c.loop-trace.invariant
+    ∙ ap still (sym c.trace-item.is) ∙ sym c.in_ok-is_still.ensures ∙ c.if-not-branch.false
+
+pub returns-then-not-branch : goal.returns-then-not-branch
+returns-then-not-branch c =
+    let still = is_still c.args.script.now in
+    sym (list_all_at still c.args.traces.now c.loop-trace.trace-index c.trace-item.result c.loop-trace-test.true
+    (ap still (sym c.trace-item.is) ∙ sym c.in_ok-is_still.ensures ∙ c.if-not-branch.true))
+
+pub returns : goal.returns
+returns c =
+    sym c.loop-trace.invariant ∙ ap (list_all (is_still c.args.script.now)) (take_all c.loop-trace.trace-index c.args.traces.now c.loop-trace-test.false)
