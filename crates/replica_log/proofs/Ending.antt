@@ -5,7 +5,7 @@ use Rattle.std.proofs.Math.Seq.{take-append_seam, get_or-append_seam}
 use Rattle.fab_base.specs.declared.ids.ReplicaId.{ReplicaId}
 use Rattle.fab_rules.specs.Lists.{In}
 use Rattle.run_words.specs.declared.logs.Parcel.{Parcel}
-use Rattle.replica_log.specs.Posting.{Counts, number_in, raised, numbered, ended, ended_parcel, HaveRoom}
+use Rattle.replica_log.specs.Posting.{Counts, number_in, raised, raised_by, numbered, ended, ended_parcel, HaveRoom}
 
 -- bytes with so many open ones at the end
 abbrev opened : List ℕ → ℕ → List ℕ
@@ -38,6 +38,34 @@ have_room counts time front room (to ∷ rest) q (inl e) =
     let enough : room ≤ length (opened front room) = omega arith in
     subst (λ (x : Parcel). room ≤ length x.bytes) e enough
 have_room counts time front room (to ∷ rest) q (inr i) = have_room (raised counts to) time front room rest q i
+
+-- a parcel more is made
+pub made_more : (counts now : Counts) (time : ℕ) (bytes some : List ℕ) (to : List ReplicaId) (k : ℕ) (d : ReplicaId) (number : ℕ)
+    (made after whole : List Parcel) → k < length to
+    → number ≡ number_in counts (get_or to k d) → some ≡ bytes → now ≡ raised counts (get_or to k d)
+    → after ≡ made ++ record { to = get_or to k d; number = number; time = time; bytes = some; passes = 1 } ∷ []
+    → whole ≡ made ++ numbered counts time bytes (drop k to) → whole ≡ after ++ numbered now time bytes (drop (k + 1) to)
+made_more counts now time bytes some to k d number made after whole lt number_is some_is now_is after_is h =
+    let x = get_or to k d in
+    let p : ℕ → List ℕ → Parcel = λ n b. record { to = x; number = n; time = time; bytes = b; passes = 1 } in
+    let rest = drop (k + 1) to in
+    let others = numbered (raised counts x) time bytes rest in
+    h
+    ∙ ap (λ (l : List ReplicaId). made ++ numbered counts time bytes l) (drop_more to k d lt)
+    ∙ sym (append_assoc made (p (number_in counts x) bytes ∷ []) others)
+    ∙ ap (λ (l : List Parcel). l ++ others)
+    (sym (after_is ∙ ap (λ (n : ℕ). made ++ p n some ∷ []) number_is ∙ ap (λ (b : List ℕ). made ++ p (number_in counts x) b ∷ []) some_is))
+    ∙ ap (λ (c : Counts). after ++ numbered c time bytes rest) (sym now_is)
+
+-- and its receiver's number is raised
+pub raised_more : (counts now whole : Counts) (to : List ReplicaId) (k : ℕ) (d : ReplicaId) → k < length to
+    → now ≡ raised counts (get_or to k d) → whole ≡ raised_by counts (drop k to) → whole ≡ raised_by now (drop (k + 1) to)
+raised_more counts now whole to k d lt now_is h =
+    h ∙ ap (raised_by counts) (drop_more to k d lt) ∙ ap (λ (c : Counts). raised_by c (drop (k + 1) to)) (sym now_is)
+
+-- after the last receiver all are raised
+pub all_raised : (counts whole : Counts) (to : List ReplicaId) (k : ℕ) → length to ≤ k → whole ≡ raised_by counts (drop k to) → counts ≡ whole
+all_raised counts whole to k le h = sym (h ∙ ap (raised_by counts) (drop_all k to le))
 
 -- after the last receiver all are made
 pub all_made : (counts : Counts) (time : ℕ) (bytes : List ℕ) (to : List ReplicaId) (k : ℕ) (made whole : List Parcel) → length to ≤ k

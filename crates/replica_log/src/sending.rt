@@ -55,14 +55,23 @@ fn has_leaf<S: Signer>(signer: &S) -> bool
     !signer.spent()
 }
 
-/// The next signature. After a refusal of memory the signer is what it was.
-fn sign<S: Signer>(signer: &mut S, content: &[u8]) -> Result<Bytes, NoMemory>
+/// The next signature, with room for its entry and for what was signed. After a refusal of memory the signer is what it was.
+fn sign<S: Signer>(
+    journal: &mut Vec<Entry>,
+    signed: &mut Vec<Bytes>,
+    signer: &mut S,
+    content: &[u8],
+) -> Result<Bytes, NoMemory>
     requires unspent { S.made signer.old < S.limit signer.old }
     ensures signed { IfOk result (λ sig. (sig ≡ S.gives signer.old (S.made signer.old) content.now) × (S.made signer.new ≡ S.made signer.old + 1)) }
     ensures len { IfOk result (λ sig. length sig ≡ tree_signature_len (S.key signer.old).ots (S.key signer.old).height) }
+    ensures room { OnOk result ((vec_len journal.new < vec_capacity journal.new) × (vec_len signed.new < vec_capacity signed.new)) }
+    ensures items { (journal.new.items ≡ journal.old.items) × (signed.new.items ≡ signed.old.items) }
     ensures same { (S.key signer.new ≡ S.key signer.old) × (S.limit signer.new ≡ S.limit signer.old) × (S.gives signer.new ≡ S.gives signer.old) }
     ensures refused { OnErr result (signer.new ≡ signer.old) }
 {
+    journal.reserve(1)?;
+    signed.reserve(1)?;
     match signer.sign(content) {
         Ok(sig) => Ok(sig),
         Err(SignFault::NoMemory) => Err(NoMemory),
@@ -144,9 +153,12 @@ impl<S: Signer + Drop> Keeper<S> {
         ensures err { OnErr result (IsLiveThen S.limit S.made S.gives self.old self.old.journal.items self.new) }
     {
         let out = self.outgoing()?;
-        self.journal.reserve(1)?;
-        self.signed.reserve(1)?;
-        let sig = sign(&mut self.signer, out.content.as_slice())?;
+        let sig = sign(
+            &mut self.journal,
+            &mut self.signed,
+            &mut self.signer,
+            out.content.as_slice(),
+        )?;
         Ok(self.seal(out, sig))
     }
 
