@@ -2,6 +2,7 @@
 use Rattle.std.proofs.Common.{◌≡◌, ℕ, ◌+◌, Bool, true, false, cond, List, [], ◌∷◌, ◌++◌, length, Result, Ok, Err, refl, sym, ap, subst, ◌∙◌, append-nil, add-zero}
 use Rattle.std.specs.Prelude.{IfOk, OnOk}
 use Rattle.fab_base.specs.declared.answers.Answer.{Answer}
+use Rattle.fab_base.specs.Limits.{Roster}
 use Rattle.fab_machine.specs.State.{Replica}
 use Rattle.fab_machine.specs.Step as machine
 use Rattle.fab_machine.specs.Step.{step, makes_entry}
@@ -17,6 +18,7 @@ use Rattle.replica_log.specs.Posting.{Counts, AreNumbers}
 use Rattle.replica_log.specs.Keeping.{IsKept, core_after, maker_of, IsLive, Moves, IsMoving}
 use Rattle.replica_log.specs.declared.keepers.Keeper.{Keeper}
 use Rattle.replica_log.proofs.Growing.{IsMore, kept_more, core_more}
+use Rattle.replica_log.proofs.Stepping.{IsBeside}
 
 -- ---- such an entry
 
@@ -28,6 +30,10 @@ moving_cases P a b c d Event.Nudge Entry.Nudged h = b
 moving_cases P a b c d Event.Execute Entry.Executed h = c
 moving_cases P a b c d Event.Checkpoint Entry.Marked h = d
 moving_cases P a b c d event e h = absurd h
+
+-- such an event is of no roster
+pub moving_for : (r : Roster) (event : Event) (e : Entry) → IsMoving event e → cores.IsFor r event
+moving_for r = moving_cases (λ event e. cores.IsFor r event) tt tt tt tt
 
 record IsQuiet (m : Maker) (journal : List Entry) (event : Event) (e : Entry) : Type 0 where
   next : makes_entry (step m.roster m.id (state m journal) (cores.event_of event)).answer ≡ true → IsNext m journal e
@@ -87,11 +93,6 @@ advanced m journal core event e now signed counts made h live moving false makes
     record { kept = h; live = ap (λ (c : Machine). with_state c (stepped c event).state) live ∙ ap core_of still }
 
 -- ---- a keeper
-
--- what is kept beside the journal is what it was
-abbrev pub IsBeside : {S : Type 0} → (S → ℕ) → (S → ℕ) → (S → ℕ → List ℕ → List ℕ) → Keeper S → Keeper S → Type 0
-IsBeside limit made gives old now =
-    IsKept (maker_of limit gives old) old.journal.items now.clock now.signed.items now.numbers (made now.signer)
 
 pub advances : {S : Type 0} {E : Type 0} (limit made : S → ℕ) (gives : S → ℕ → List ℕ → List ℕ) (old now : Keeper S) (event : Event) (e : Entry)
     → maker_of limit gives now ≡ maker_of limit gives old → IsBeside limit made gives old now → IsLive limit gives old → IsMoving event e

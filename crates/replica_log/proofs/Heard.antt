@@ -13,13 +13,13 @@ use Rattle.replica_core.specs.Cores as cores
 use Rattle.replica_core.specs.declared.events.Event.{Event}
 use Rattle.run_words.specs.declared.logs.Entry.{Entry}
 use Rattle.run_words.specs.declared.logs.Parcel.{Parcel}
-use Rattle.run_words.specs.Acts.{answer_to}
-use Rattle.run_words.specs.Journal.{Maker, Walk, event_of, state, tick, added, signed_by, walk, parcels_of, IsNext, IsHeardSound}
+use Rattle.run_words.specs.Journal.{Maker, Walk, event_of, tick, added, signed_by, walk, parcels_of, IsNext, IsHeardSound}
 use Rattle.replica_log.specs.Entering.{has_entry}
 use Rattle.replica_log.specs.Posting.{Counts, AreNumbers}
 use Rattle.replica_log.specs.Keeping.{IsKept, core_after, maker_of, IsLive, Enters, Stays, IsHearing}
 use Rattle.replica_log.specs.declared.keepers.Keeper.{Keeper}
 use Rattle.replica_log.proofs.Growing.{IsMore, kept_more, core_more}
+use Rattle.replica_log.proofs.Stepping.{stays as refused}
 
 record IsHeard (m : Maker) (journal : List Entry) (x : Message) (e : Entry) : Type 0 where
   event_is : event_of e ≡ machine.Event.Hear x
@@ -108,17 +108,6 @@ hears limit made gives old now event x e after same kept live is sound entry t (
       live = c ∙ held.live ∙ ap (core_after m) (sym there) ∙ ap (λ (y : Maker). core_after y now.journal.items) (sym same);
     }
 
--- the answer is that of the machine after the journal
-pub answers : {S : Type 0} {E : Type 0} (limit : S → ℕ) (gives : S → ℕ → List ℕ → List ℕ) (old : Keeper S) (event : Event) (x : Message)
-    → IsLive limit gives old → cores.event_of event ≡ machine.Event.Hear x
-    → (r : Result Answer E) → IfOk r (λ answer. answer ≡ (stepped old.core event).answer)
-    → IfOk r (λ answer. answer ≡ answer_to (maker_of limit gives old) old.journal.items (machine.Event.Hear x))
-answers limit gives old event x live is (Err y) a = tt
-answers limit gives old event x live is (Ok answer) a =
-    let m = maker_of limit gives old in
-    a ∙ ap (λ (c : Machine). (stepped c event).answer) live
-    ∙ ap (λ (v : machine.Event). (machine.step m.roster m.id (state m old.journal.items) v).answer) is
-
 -- after a refusal only the core may be another
 pub stays : {S : Type 0} {E : Type 0} (limit made : S → ℕ) (gives : S → ℕ → List ℕ → List ℕ) (old now : Keeper S) (e : Entry) (after : ℕ)
     → maker_of limit gives now ≡ maker_of limit gives old → IsBeside limit made gives old now
@@ -128,11 +117,5 @@ pub stays : {S : Type 0} {E : Type 0} (limit made : S → ℕ) (gives : S → �
     → OnErr r (Stays limit made gives old now)
 stays limit made gives old now e after same kept (Ok answer) j k = tt
 stays limit made gives old now e after same kept (Err y) j k =
-    let m = maker_of limit gives old in
-    record {
-      same = same;
-      journal_is = j;
-      kept = subst (λ (y : Maker). IsKept y now.journal.items now.clock now.signed.items now.numbers (made now.signer)) (sym same)
-          (subst (λ (l : List Entry). IsKept m l now.clock now.signed.items now.numbers (made now.signer)) (sym j)
-          (subst (λ (n : ℕ). IsKept m old.journal.items n now.signed.items now.numbers (made now.signer)) (sym k) kept));
-    }
+    refused limit made gives old now e same
+    (subst (λ (n : ℕ). IsKept (maker_of limit gives old) old.journal.items n now.signed.items now.numbers (made now.signer)) (sym k) kept) (Err y) j

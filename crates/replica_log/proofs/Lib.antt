@@ -6,6 +6,7 @@ pub mod Tracked
 pub mod Waiting
 pub mod Signed
 pub mod Growing
+pub mod Stepping
 pub mod Going
 pub mod Heard
 pub mod Emitting

@@ -1,4 +1,5 @@
-use Rattle.std.proofs.Common.{refl, sym, ap, subst, ◌∙◌}
+use Rattle.std.proofs.Common.{◌≡◌, refl, sym, ap, subst, ◌∙◌}
+use Rattle.std.specs.Prelude.{IfOk}
 use Rattle.bft_msg.specs.Judged.{Judged}
 use Rattle.bft_verify.specs.Ring.{Ring}
 use Rattle.bft_verify.specs.Sound.{IsSound}
@@ -6,7 +7,10 @@ use Rattle.fab_base.specs.Limits.{Roster}
 use Rattle.fab_machine.specs.Step as machine
 use Rattle.replica_core.specs.Cores.{Machine}
 use Rattle.replica_core.specs.declared.events.Event.{Event}
-use Rattle.replica_log.proofs.Heard.{hears, answers, stays}
+use Rattle.run_words.specs.Acts.{answer_to}
+use Rattle.replica_log.specs.Keeping.{maker_of}
+use Rattle.replica_log.proofs.Heard.{hears, stays}
+use Rattle.replica_log.proofs.Stepping.{answers}
 use Rattle.replica_log.proofs.keepers.Keeper.take.Goals as goal
 
 pub returns-clause-enters : goal.returns-clause-enters
@@ -26,8 +30,10 @@ enter-answer-requires-clause-event g c =
 
 pub returns-clause-answer : goal.returns-clause-answer
 returns-clause-answer g c =
-    answers g.S.Signer.limit g.S.Signer.gives c.args.self.now (Event.Hear c.into_shaped.result) c.args.heard.message c.requires.live
-    (ap (λ (j : Judged). machine.Event.Hear j.message) c.into_shaped.ensures.is) c.enter-answer.result c.enter-answer.ensures.answer
+    let k = c.args.self.now in
+    subst (λ (event : machine.Event). IfOk c.enter-answer.result (λ answer. answer ≡ answer_to (maker_of g.S.Signer.limit g.S.Signer.gives k) k.journal.items event))
+    (ap (λ (j : Judged). machine.Event.Hear j.message) c.into_shaped.ensures.is)
+    (answers g.S.Signer.limit g.S.Signer.gives k (Event.Hear c.into_shaped.result) c.requires.live c.enter-answer.result c.enter-answer.ensures.answer)
 
 pub returns-clause-stays : goal.returns-clause-stays
 returns-clause-stays g c =
