@@ -1,16 +1,19 @@
 -- What an act of the core does to the journal is what an act of a party does.
-use Rattle.std.proofs.Common.{◌≡◌, Bool, cond, List, [], ◌∷◌, ◌++◌, Result, Ok, Err, refl, sym, ap, subst, ◌∙◌}
-use Rattle.std.specs.Prelude.{ℕ, IfOk}
+use Rattle.std.proofs.Common.{◌≡◌, Bool, true, cond, List, [], ◌∷◌, ◌++◌, Result, Ok, Err, refl, sym, ap, subst, ◌∙◌}
+use Rattle.std.specs.Prelude.{ℕ, IfOk, OnOk}
 use Rattle.fab_base.specs.declared.answers.Answer.{Answer}
 use Rattle.fab_machine.specs.Step as machine
 use Rattle.fab_machine.specs.Step.{makes_entry}
+use Rattle.fab_machine.proofs.Steps.{hearing_moves}
+use Rattle.bft_verify.specs.Admitted.{Admitted}
 use Rattle.run_words.specs.declared.logs.Entry.{Entry}
+use Rattle.run_words.specs.declared.logs.Origin.{Origin}
 use Rattle.run_words.specs.declared.party.Act.{Act}
 use Rattle.run_words.specs.declared.party.Told.{Told}
-use Rattle.run_words.specs.Journal.{Maker, moves}
+use Rattle.run_words.specs.Journal.{Maker, state, moves}
 use Rattle.run_words.specs.Acts.{answer_to, would, made_by, told_of}
 use Rattle.replica_log.specs.Acting.{told_by}
-use Rattle.replica_log.specs.Keeping.{maker_of, Moves, HasActed}
+use Rattle.replica_log.specs.Keeping.{maker_of, Enters, Moves, HasActed}
 use Rattle.replica_log.specs.declared.keepers.Keeper.{Keeper}
 
 -- an act, the core's event of it and its entry
@@ -18,6 +21,13 @@ record IsBy (m : Maker) (journal : List Entry) (act : Act) (event : machine.Even
   makes : would m journal act ≡ makes_entry (answer_to m journal event)
   entry : made_by m journal act ≡ e
   told : told_of m journal act ≡ Told.Core (answer_to m journal event)
+
+always : (m : Maker) (journal : List Entry) (heard : Admitted) → makes_entry (answer_to m journal (machine.Event.Hear heard.message)) ≡ true
+always m journal heard = hearing_moves m.roster m.id (state m journal) heard.message
+
+hear : (m : Maker) (journal : List Entry) (origin : Origin) (heard : Admitted)
+    → IsBy m journal (Act.Hear origin heard) (machine.Event.Hear heard.message) (Entry.Heard origin heard.message)
+hear m journal origin heard = record { makes = sym (always m journal heard); entry = refl; told = refl }
 
 batch : (m : Maker) (journal : List Entry) → IsBy m journal Act.Batch machine.Event.Batch Entry.Proposed
 unfolding moves
@@ -65,6 +75,24 @@ module _ {S : Type 0} {E : Type 0} (limit made : S → ℕ) (gives : S → ℕ �
       subst (HaveActed act) (sym told)
       (subst (λ (x : Act). HaveActed x (told_by r)) (sym is)
       (acted_by done event e by r a (subst (λ (x : Entry). IfOk r (λ answer. Moves limit made gives old x (makes_entry answer) now)) entry_is v)))
+
+  entered : (origin : Origin) (heard : Admitted) (r : Result Answer E)
+      → IfOk r (λ answer. answer ≡ answer_to (maker_of limit gives old) old.journal.items (machine.Event.Hear heard.message))
+      → OnOk r (Enters limit made gives old (Entry.Heard origin heard.message) now)
+      → IfOk r (λ answer. Moves limit made gives old (Entry.Heard origin heard.message) (makes_entry answer) now)
+  entered origin heard (Err x) a v = tt
+  entered origin heard (Ok answer) a v =
+      subst (λ (b : Bool). Moves limit made gives old (Entry.Heard origin heard.message) b now)
+      (sym (ap makes_entry a ∙ always (maker_of limit gives old) old.journal.items heard)) v
+
+  pub hear_acted : (act : Act) (origin : Origin) (heard : Admitted) (r : Result Answer E) (t : Result Told E) → act ≡ Act.Hear origin heard → t ≡ told_by r
+      → IfOk r (λ answer. answer ≡ answer_to (maker_of limit gives old) old.journal.items (machine.Event.Hear heard.message))
+      → OnOk r (Enters limit made gives old (Entry.Heard origin heard.message) now)
+      → HaveActed act t
+  hear_acted act origin heard r t is told a v =
+      let e : Entry = Entry.Heard origin heard.message in
+      acted_as act (Act.Hear origin heard) (machine.Event.Hear heard.message) e e is (hear (maker_of limit gives old) old.journal.items origin heard) refl r t
+      told a (entered origin heard r a v)
 
   pub batch_acted : (act : Act) (entry : Entry) (r : Result Answer E) (t : Result Told E) → act ≡ Act.Batch → entry ≡ Entry.Proposed → t ≡ told_by r
       → IfOk r (λ answer. answer ≡ answer_to (maker_of limit gives old) old.journal.items machine.Event.Batch)

@@ -16,18 +16,20 @@ returns-clause-parcels c = λ back e.
 
 pub loop-receiver-init : goal.loop-receiver-init
 loop-receiver-init c =
-    let bytes = c.args.front.now ++ replicate c.args.room 0 in
-    (ap (λ (n : Counts). numbered n c.args.time bytes c.args.to.now) (sym c.in_ok-after.ensures)
-    ∙ ap (λ (l : List Parcel). l ++ numbered c.in_ok-after.after c.args.time bytes c.args.to.now) (sym c.in_ok-parcels.ensures.items),
-    ap (λ (n : Counts). raised_by n c.args.to.now) (sym c.in_ok-after.ensures))
+    let bytes = c.args.front.now ++ replicate c.args.room 0 in (
+      ap (λ (n : Counts). numbered n c.args.time bytes c.args.to.now) (sym c.in_ok-after.ensures)
+          ∙ ap (λ (l : List Parcel). l ++ numbered c.in_ok-after.after c.args.time bytes c.args.to.now) (sym c.in_ok-parcels.ensures.items),
+      ap (λ (n : Counts). raised_by n c.args.to.now) (sym c.in_ok-after.ensures),
+    )
 
 pub loop-receiver-preserved : goal.loop-receiver-preserved
-loop-receiver-preserved c =
-    (made_more c.loop-receiver.after c.raise.new.self c.args.time (c.args.front.now ++ replicate c.args.room 0) c.in_ok-with_room.field-0 c.args.to.now
-    c.loop-receiver.receiver-index _ c.in_ok-raise.field-0 c.loop-receiver.parcels.items c.push.new.self.items _ c.loop-receiver-test.true
-    c.in_ok-raise.ensures.number c.in_ok-with_room.ensures c.in_ok-raise.ensures.raised c.in_ok-push.ensures.items c.loop-receiver.invariant.0,
-    raised_more c.loop-receiver.after c.raise.new.self _ c.args.to.now c.loop-receiver.receiver-index _ c.loop-receiver-test.true
-    c.in_ok-raise.ensures.raised c.loop-receiver.invariant.1)
+loop-receiver-preserved c = (
+  made_more c.loop-receiver.after c.raise.new.self c.args.time (c.args.front.now ++ replicate c.args.room 0) c.in_ok-with_room.field-0 c.args.to.now
+      c.loop-receiver.receiver-index _ c.in_ok-raise.field-0 c.loop-receiver.parcels.items c.push.new.self.items _ c.loop-receiver-test.true
+      c.in_ok-raise.ensures.number c.in_ok-with_room.ensures c.in_ok-raise.ensures.raised c.in_ok-push.ensures.items c.loop-receiver.invariant.0,
+  raised_more c.loop-receiver.after c.raise.new.self _ c.args.to.now c.loop-receiver.receiver-index _ c.loop-receiver-test.true
+      c.in_ok-raise.ensures.raised c.loop-receiver.invariant.1,
+)
 
 pub returns-clause-counts : goal.returns-clause-counts
 returns-clause-counts c =

@@ -1,5 +1,10 @@
-use Rattle.replica_log.proofs.Acted.{batch_acted, nudge_acted, execute_acted, checkpoint_acted}
+use Rattle.replica_log.proofs.Acted.{hear_acted, batch_acted, nudge_acted, execute_acted, checkpoint_acted}
 use Rattle.replica_log.proofs.keepers.Keeper.act.Goals as goal
+
+pub returns-in-Hear-clause-acted : goal.returns-in-Hear-clause-acted
+returns-in-Hear-clause-acted g c =
+    hear_acted g.S.Signer.limit g.S.Signer.made g.S.Signer.gives c.args.self.now c.hear.new.self c.args.act c.in-Hear.origin c.in-Hear.heard c.hear.result
+    c.told.result c.in-Hear.is c.told.ensures c.hear.ensures.answer c.hear.ensures.enters
 
 pub returns-in-Batch-clause-acted : goal.returns-in-Batch-clause-acted
 returns-in-Batch-clause-acted g c =
