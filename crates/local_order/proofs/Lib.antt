@@ -10,3 +10,4 @@ mod Stamping
 mod StableRounds
 mod LowMark
 mod HeardAgain
+mod Counting
