@@ -1,18 +1,41 @@
 -- Votes for due rounds and moves of the low mark, by what is asked first.
-use Rattle.std.proofs.Common.{◌≡◌, ◌≢◌, ℕ, zero, suc, true, nat_lt, List, [], ◌∷◌, length, refl, sym, ap, ◌∙◌, arith}
+use Rattle.std.proofs.Common.{◌≡◌, ◌≢◌, ℕ, zero, suc, Bool, true, false, cond, not, nat_eq, nat_lt, List, [], ◌∷◌, length, refl, sym, ap, ◌∙◌, arith}
 use Rattle.std.proofs.lemmas.Bool.Decides.{nat_tests}
 use Rattle.fab_base.specs.Limits.{Roster}
 use Rattle.fab_base.specs.declared.ids.ReplicaId.{ReplicaId}
 use Rattle.fab_base.specs.declared.messages.Message.{Message}
+use Rattle.fab_base.specs.declared.messages.StableVote.{StableVote}
 use Rattle.fab_base.specs.declared.answers.Answer.{Answer}
+use Rattle.fab_base.specs.declared.answers.Take.{Take}
 use Rattle.fab_rules.specs.Lists.{greatest}
+use Rattle.checkpoint_core.specs.Checkpoints.{vote_answer, after_vote}
 use Rattle.fab_machine.specs.State.{Due, Local}
 use Rattle.fab_machine.specs.Voting.{Told, unmoved}
+use Rattle.fab_machine.specs.Hearing.{hear_checkpoint}
 use Rattle.fab_machine.specs.Checkpointing.{stable_rounds, after_move, heard_again, moved, move_to, checkpoint_by}
 use Rattle.fab_machine.specs.Step.{makes_entry, can_checkpoint}
 use Rattle.fab_machine.specs.declared.outs.Out.{Out}
 use Rattle.local_order.specs.Inside as inside
 use Rattle.local_order.specs.Inside.{Member}
+
+-- ---- a Checkpoint that is heard
+
+abbrev counted : Local → StableVote → Told
+counted l v = record { answer = Answer.Heard (vote_answer l.checkpoints v); local = record l { checkpoints = after_vote l.checkpoints v }; outs = [] }
+
+-- of the own cluster
+pub heard_here : (me : ReplicaId) (l : Local) (v : StableVote) → v.signer.cluster ≡ me.cluster → counted l v ≡ hear_checkpoint me l v
+heard_here me l v h = ap (λ b. cond (not b) (unmoved l (Answer.Heard Take.Stray)) (counted l v)) (here v.signer.cluster me.cluster h)
+  where
+    here : (a b : ℕ) → a ≡ b → true ≡ nat_eq a b
+    here a b e = grind (arith, nat_tests)
+
+-- of another
+pub heard_elsewhere : (me : ReplicaId) (l : Local) (v : StableVote) → v.signer.cluster ≢ me.cluster → unmoved l (Answer.Heard Take.Stray) ≡ hear_checkpoint me l v
+heard_elsewhere me l v h = ap (λ b. cond (not b) (unmoved l (Answer.Heard Take.Stray)) (counted l v)) (elsewhere v.signer.cluster me.cluster h)
+  where
+    elsewhere : (a b : ℕ) → a ≢ b → false ≡ nat_eq a b
+    elsewhere a b e = grind (arith, nat_tests)
 
 -- ---- whether anything would be done
 
