@@ -1,5 +1,6 @@
 use Rattle.std.proofs.Common.{◌≡◌, ◌++◌, ◌∷◌, [], Some, ap, sym, ◌∙◌}
 use Rattle.fab_base.specs.declared.messages.Message.{Message}
+use Rattle.std.proofs.lemmas.List.{append-nil}
 use Rattle.pbft_slots.specs.Window.{prepared_at}
 use Rattle.fab_machine.specs.Items.{to_cluster, vote_of}
 use Rattle.fab_machine.specs.Voting.{newly, keep_prepared, commit_outs}
@@ -33,4 +34,11 @@ pub returns-in-None-clause-state : goal.returns-in-None-clause-state
 returns-in-None-clause-state c =
     let now = c.args.self.now in
     ap (λ digest. moved now (keep_prepared now.local c.args.slot digest)) (sym c.in-None.is ∙ c.prepared.ensures.is
+    ∙ ap (λ o. prepared_at o.local.slots c.args.slot) c.self.view_is ∙ newly_is c.args.before _ c.if-is_some.ensures)
+
+pub returns-in-None-clause-outs : goal.returns-in-None-clause-outs
+returns-in-None-clause-outs c =
+    let now = c.args.self.now in
+    let before = c.args.outs.now in
+    sym (append-nil before) ∙ ap (λ digest. before ++ commit_outs now.roster now.me now.local.view c.args.slot digest) (sym c.in-None.is ∙ c.prepared.ensures.is
     ∙ ap (λ o. prepared_at o.local.slots c.args.slot) c.self.view_is ∙ newly_is c.args.before _ c.if-is_some.ensures)
