@@ -54,7 +54,7 @@ keep() {
 build() {
   mkdir -p "$top/out" "$crate/out"
   local log=$top/out/build_by_$backend.log aside=
-  echo "fabric: proving and building the program by $backend; this takes minutes the first time (log: out/build_by_$backend.log)" >&2
+  echo "fabric: proving and building the program by $backend; this takes about half an hour the first time (log: out/build_by_$backend.log)" >&2
   if [ "$backend" = rattle ] && [ -x "$crate/out/fabric_prog" ]; then
     aside=$(mktemp "$top/out/.llvm.XXXXXX")
     cp -p "$crate/out/fabric_prog" "$aside"
