@@ -1,12 +1,6 @@
 mod Members
 mod Whole
-mod Dropping
-mod Waiters
-mod Eligible
-mod Expected
-mod HeldBatches
 mod Refusing
-mod Stamping
 mod StableRounds
 mod LowMark
 mod HeardAgain

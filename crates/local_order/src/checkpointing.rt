@@ -6,7 +6,7 @@ ghost use Rattle.fab_base.specs.declared.answers.Answer.{Answer};
 ghost use Rattle.fab_rules.specs.Lists.{In, greatest};
 ghost use Rattle.fab_rules.specs.Shape.{IsShaped};
 ghost use Rattle.checkpoint_core.specs.Checkpoints.{proof_of};
-ghost use Rattle.fab_machine.specs.LocalState.{AreWaiting, IsLocalState};
+ghost use Rattle.fab_machine.specs.LocalState.{IsLocalState};
 ghost use Rattle.fab_machine.specs.Voting.{unmoved};
 ghost use Rattle.fab_machine.specs.Hearing.{hear, hear_checkpoint};
 ghost use Rattle.fab_machine.specs.Checkpointing.{voted, stable_rounds, moved_places, after_move, heard_again, next_due, move_to, checkpoint};
@@ -94,7 +94,7 @@ impl State {
         ensures { result ≡ greatest (stable_rounds self.now.local) }
     {
         let mut greatest = 0;
-        for round in self.slots.low() + 1..self.executed + 1 {
+        for round in self.slots.low() + 1..self.pool.executed() + 1 {
             if self.checkpoints.stable(round).is_some() {
                 greatest = round;
             }
@@ -134,7 +134,7 @@ impl State {
         ensures { result ≡ next_due self.now.roster.interval self.now.local.executed }
     {
         let interval = u64::from(self.members.interval());
-        (self.executed / interval + 1) * interval
+        (self.pool.executed() / interval + 1) * interval
     }
 
     /// The low mark is now this round: slots, votes, prepared certificates and Checkpoints up to it are let go. Gives the messages that were
@@ -176,8 +176,7 @@ impl State {
 
     /// Hears a message, and adds what it brings about.
     fn hear_one(&mut self, message: Message, outs: &mut Outs) -> Result<(), NoMemory>
-        requires shaped { IsShaped self.old.roster message }
-        requires waiting { AreWaiting self.old.roster self.old.me self.old.local.waiting }
+        requires { IsShaped self.old.roster message }
         ensures outs { OnOk result (outs.new ≡ outs.old ++ (hear self.old.roster self.old.me self.old.local message).outs) }
         ensures state { OnOk result (self.new ≡ moved self.old (hear self.old.roster self.old.me self.old.local message).local) }
         ensures same { IsSame self.old self.new }

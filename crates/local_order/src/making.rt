@@ -1,5 +1,5 @@
 //! The making of an `Order`.
-ghost use Rattle.std.specs.Prelude.{◌≡◌, ◌≤◌, false, None, length, replicate, IfOk, IsTrue};
+ghost use Rattle.std.specs.Prelude.{◌≡◌, false, None, replicate, IfOk, IsTrue};
 ghost use Rattle.fab_base.specs.Limits.{IsWithinLimits};
 ghost use Rattle.fab_base.specs.Roster.{is_replica};
 ghost use Rattle.fab_machine.specs.State.{fresh_local};
@@ -8,8 +8,9 @@ use crate::NoMemory;
 use crate::ordering::Order;
 use crate::state::State;
 use checkpoint_core::stable_votes;
-use fab_base::{ClientId, MOST_CLIENTS, Members, PreparedCert, ReplicaId, Rows, StableVotes, Who};
+use fab_base::{Members, PreparedCert, ReplicaId, Rows, StableVotes};
 use pbft_slots::slots;
+use request_pool::request_pool;
 use std::alloc::Global;
 
 /// The ordering of the cluster of a replica, which is one of the members: view 0, and nothing was heard. It fails only where memory is
@@ -32,7 +33,7 @@ fn state(alloc: Global, members: Members, me: ReplicaId) -> Result<State, NoMemo
 {
     let slots = slots(alloc, members.size(me.cluster), members.window())?;
     let prepared = no_certificates(alloc, members.window())?;
-    let last = no_stamps(alloc, &members)?;
+    let pool = request_pool(alloc, &members)?;
     let checkpoints = stable_votes(alloc, members.size(me.cluster))?;
     Ok(State {
         members,
@@ -42,10 +43,7 @@ fn state(alloc: Global, members: Members, me: ReplicaId) -> Result<State, NoMemo
         slots,
         prepared,
         next: 1,
-        proposed: Vec::new(alloc),
-        waiting: Vec::new(alloc),
-        last,
-        executed: 0,
+        pool,
         kept: Rows::new(alloc),
         checkpoints,
         proof: StableVotes::new(alloc),
@@ -62,18 +60,4 @@ fn no_certificates(alloc: Global, window: u8) -> Result<Vec<Option<PreparedCert>
         prepared.push(None)?;
     }
     Ok(prepared)
-}
-
-/// A place for the last stamp of each client that took effect, and none did.
-fn no_stamps(alloc: Global, members: &Members) -> Result<Vec<u32>, NoMemory>
-    requires { length members.now.homes ≤ MOST_CLIENTS }
-    ensures { IfOk result (λ made. made.items ≡ replicate (length members.now.homes) 0) }
-{
-    let mut last = Vec::new(alloc);
-    for number in 0..MOST_CLIENTS {
-        if members.has(Who::Client(ClientId { number })) {
-            last.push(0)?;
-        }
-    }
-    Ok(last)
 }

@@ -2,6 +2,8 @@ use Rattle.std.proofs.Common.{◌+◌, ◌++◌, ◌∷◌, [], length, ap, ◌�
 use Rattle.fab_base.specs.declared.answers.Answer.{Answer}
 use Rattle.fab_base.specs.declared.messages.Message.{Message}
 use Rattle.fab_machine.specs.Items.{to_cluster, proposal_of}
+use Rattle.fab_machine.specs.State.{Local}
+use Rattle.request_pool.specs.Pools.{Pool}
 use Rattle.local_order.specs.Inside.{moved}
 use Rattle.local_order.specs.contracts.state.State.{the_view}
 use Rattle.local_order.proofs.state.State.put_batch.Goals as goal
@@ -24,8 +26,9 @@ returns-clause-outs c =
 pub returns-clause-state : goal.returns-clause-state
 returns-clause-state c =
     let old = the_view c.self.inside in
-    ap (λ proposed. moved old (record old.local { next = old.local.next + 1; proposed = proposed })) c.in_ok-push-2.ensures.items
-    ∙ ap (λ o. moved o (record o.local { next = o.local.next + 1; proposed = o.local.proposed ++ record { slot = o.local.next; batch = c.args.batch } ∷ [] })) c.self.view_is
+    ap (λ (p : Pool). moved old (let l : Local = record old.local { next = old.local.next + 1; proposed = p.proposed; waiting = p.waiting; last = p.last; executed = p.executed } in l))
+    c.in_ok-propose.ensures.state
+    ∙ ap (λ o. moved o (let l : Local = record o.local { next = o.local.next + 1; proposed = o.local.proposed ++ record { slot = o.local.next; batch = c.args.batch } ∷ [] } in l)) c.self.view_is
 
 pub returns-clause-same : goal.returns-clause-same
 returns-clause-same c = (ap (λ o. o.roster) c.self.view_is, ap (λ o. o.me) c.self.view_is)
