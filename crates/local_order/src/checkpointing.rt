@@ -28,17 +28,17 @@ impl State {
         ensures state { OnOk result (self.new ≡ moved self.old (hear_checkpoint self.old.me self.old.local vote).local) }
         ensures same { IsSame self.old self.new }
     {
-        let outs = Outs::new(self.alloc());
         if vote.signer.cluster != self.me.cluster {
+            drop(vote);
             return Ok(Local {
                 answer: Answer::Heard(Take::Stray),
-                outs,
+                outs: Outs::new(self.alloc()),
             });
         }
         let answer = self.checkpoints.vote(vote)?;
         Ok(Local {
             answer: Answer::Heard(answer),
-            outs,
+            outs: Outs::new(self.alloc()),
         })
     }
 
@@ -74,14 +74,12 @@ impl State {
         ensures state { OnOk result (self.new ≡ moved self.old (voted self.old.roster self.old.me self.old.local due (drop 1 self.old.local.due)).local) }
         ensures same { IsSame self.old self.new }
     {
-        let vote = StableVote {
+        let outs = self.put_alone(Message::Checkpoint(StableVote {
             signer: self.me,
             round: due.round,
             digest: due.digest,
             sig: Bytes::new(self.alloc()),
-        };
-        let mut outs = Outs::new(self.alloc());
-        outs.push(self.to_cluster(Message::Checkpoint(vote))?)?;
+        }))?;
         self.due.remove(0);
         Ok(Local {
             answer: Answer::Voted { round: due.round },

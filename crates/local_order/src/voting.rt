@@ -1,5 +1,5 @@
 //! Proposals and votes (PBFT, section 4.2): what each is answered, and what it brings about.
-ghost use Rattle.std.specs.Prelude.{◌≡◌, ◌≤◌, ◌<◌, ◌++◌, Option, None, Some, IfOk, OnOk, IsTrue};
+ghost use Rattle.std.specs.Prelude.{[], ◌≡◌, ◌≤◌, ◌<◌, ◌++◌, ◌∷◌, Option, None, Some, IfOk, OnOk, IsTrue};
 ghost use Rattle.fab_base.specs.Quorums.{quorum_size};
 ghost use Rattle.fab_base.specs.Roster.{is_replica};
 ghost use Rattle.fab_rules.specs.Digests.{batch_digest};
@@ -9,7 +9,7 @@ ghost use Rattle.fab_machine.specs.State.{wanted};
 ghost use Rattle.local_order.specs.Inside.{moved, IsSame};
 ghost use Rattle.fab_machine.specs.Items.{to_cluster, cluster_of, vote_of};
 ghost use Rattle.fab_machine.specs.Voting.{vote_refusal, batch_or_null, prepared_certificate, commit_certificate, keep_prepared};
-ghost use Rattle.fab_machine.specs.Voting.{newly, commit_outs, certified_outs, refused};
+ghost use Rattle.fab_machine.specs.Voting.{newly, prepare_outs, commit_outs, certified_outs, refused};
 ghost use Rattle.fab_machine.specs.Voting.{prepare_by, hear_prepare, commit_by, hear_commit, proposal_by, hear_proposal};
 
 use crate::NoMemory;
@@ -71,7 +71,7 @@ impl State {
     }
 
     /// The message, put for all members of the own cluster.
-    pub(crate) fn to_cluster(&self, message: Message) -> Result<Out, NoMemory>
+    fn to_cluster(&self, message: Message) -> Result<Out, NoMemory>
         ensures { IfOk result (λ out. out ≡ to_cluster self.now.roster self.now.me message) }
     {
         match self.cluster() {
@@ -81,6 +81,23 @@ impl State {
                 Err(NoMemory)
             }
         }
+    }
+
+    /// Puts the message for all members of the own cluster, behind what was put before.
+    fn put(&self, message: Message, outs: &mut Outs) -> Result<(), NoMemory>
+        ensures { OnOk result (outs.new ≡ outs.old ++ to_cluster self.now.roster self.now.me message ∷ []) }
+    {
+        let out = self.to_cluster(message)?;
+        outs.push(out)?;
+        Ok(())
+    }
+
+    /// The message, put for all members of the own cluster, and nothing else.
+    pub(crate) fn put_alone(&self, message: Message) -> Result<Outs, NoMemory>
+        ensures { IfOk result (λ outs. outs ≡ to_cluster self.now.roster self.now.me message ∷ []) }
+    {
+        let mut outs = Outs::new(self.alloc());
+        self.put(message, &mut outs).and(Ok(outs))
     }
 
     /// A copy of the slot's batch, or the null batch.
@@ -168,8 +185,7 @@ impl State {
             Some(digest) => {
                 self.keep_prepared(slot, digest)?;
                 let vote = self.vote(slot, digest);
-                outs.push(self.to_cluster(Message::Commit(vote))?)?;
-                Ok(())
+                self.put(Message::Commit(vote), outs)
             }
             None => Ok(()),
         }
@@ -315,6 +331,28 @@ impl State {
         }
     }
 
+    /// What follows from a proposal that was taken: a Prepare goes to the cluster, and then comes what follows from any that was counted.
+    fn after_proposal(
+        &mut self,
+        slot: u64,
+        digest: Hash32,
+        prepared: Option<Hash32>,
+        committed: Option<Hash32>,
+        outs: &mut Outs,
+    ) -> Result<(), NoMemory>
+        ensures state { OnOk result
+            (self.new ≡ moved self.old (keep_prepared self.old.local slot (newly prepared (prepared_at self.old.local.slots slot)))) }
+        ensures outs { OnOk result (outs.new ≡ outs.old
+            ++ prepare_outs self.old.roster self.old.me self.old.local.view slot digest
+            ++ (commit_outs self.old.roster self.old.me self.old.local.view slot (newly prepared (prepared_at self.old.local.slots slot))
+            ++ certified_outs self.old.me self.old.local slot (newly committed (committed_at self.old.local.slots slot)))) }
+        ensures same { IsSame self.old self.new }
+    {
+        let vote = self.vote(slot, digest);
+        self.put(Message::Prepare(vote), outs)?;
+        self.after_count(slot, prepared, committed, outs)
+    }
+
     /// Counts a proposal of the view, for an open slot.
     fn count_proposal(&mut self, proposal: PrePrepare, digest: Hash32) -> Result<Local, NoMemory>
         requires { digest ≡ batch_digest proposal.batch }
@@ -327,11 +365,11 @@ impl State {
         let prepared = self.slots.prepared(slot);
         let committed = self.slots.committed(slot);
         let mut outs = Outs::new(self.alloc());
-        let answer = self.slots.pre_prepare(slot, digest, proposal.batch);
+        let PrePrepare { batch, sig, .. } = proposal;
+        drop(sig);
+        let answer = self.slots.pre_prepare(slot, digest, batch);
         if answer == Take::Taken {
-            let vote = self.vote(slot, digest);
-            outs.push(self.to_cluster(Message::Prepare(vote))?)?;
-            self.after_count(slot, prepared, committed, &mut outs)?;
+            self.after_proposal(slot, digest, prepared, committed, &mut outs)?;
         }
         Ok(Local {
             answer: Answer::Heard(answer),
