@@ -1,5 +1,6 @@
 mod Members
 mod Whole
+mod Homes
 mod Refusing
 mod StableRounds
 mod LowMark
