@@ -1,5 +1,6 @@
 mod Members
 mod Whole
+mod Fresh
 mod Homes
 mod Refusing
 mod StableRounds
