@@ -7,9 +7,9 @@ ghost use Rattle.replica_log.specs.Leaving.{left_with};
 ghost use Rattle.replica_log.specs.Keeping.{maker_of, Keeps, IsLive};
 
 use crate::keepers::Keeper;
-use crate::tracing::parcels_of;
 use fab_base::{NoMemory, Rows};
 use lms_tree::Signer;
+use parcel_post::parcels_of;
 use run_words::{Parcels, Trace};
 
 impl<S: Signer + Drop> Keeper<S> {

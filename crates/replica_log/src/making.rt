@@ -8,10 +8,10 @@ ghost use Rattle.replica_log.specs.Logs.{fresh_log};
 
 use crate::keepers::Keeper;
 use crate::logs::ReplicaLog;
-use crate::numbering::Numbers;
 use bft_verify::Keyring;
 use fab_base::{Members, NoMemory, ReplicaId};
 use lms_tree::Signer;
+use parcel_post::Numbers;
 use replica_core::core;
 use std::alloc::Global;
 
