@@ -29,6 +29,10 @@ impl<S: Signer + Drop> Keeper<S> {
         let alloc = *self.journal.allocator();
         let unsent = self.core.waiting() as u64;
         drop(self.core);
+        drop(self.members);
+        drop(self.ring);
+        drop(self.numbers);
+        drop(self.signer);
         Trace {
             id: self.me,
             fault: None,

@@ -157,8 +157,14 @@ impl<S: Signer + Drop> Keeper<S> {
             &mut self.signed,
             &mut self.signer,
             out.content.as_slice(),
-        )?;
-        Ok(self.seal(out, sig))
+        );
+        match sig {
+            Ok(sig) => Ok(self.seal(out, sig)),
+            Err(NoMemory) => {
+                drop(out);
+                Err(NoMemory)
+            }
+        }
     }
 
     /// Sends the first item that waits, signed by the next leaf where the replica itself signs it. All memory is taken before the leaf is
