@@ -16,7 +16,7 @@ use Rattle.run_words.proofs.Walks.{walk_more}
 use Rattle.fab_rules.specs.Spelling.{content_of}
 use Rattle.fab_rules.specs.Statements.{signer_of}
 use Rattle.fab_machine.specs.Items.{is_own}
-use Rattle.replica_log.specs.Posting.{Counts}
+use Rattle.parcel_post.specs.Posting.{Counts}
 use Rattle.replica_log.specs.Keeping.{IsKept, core_after}
 use Rattle.replica_log.proofs.Waiting.{waiting_own}
 

@@ -28,10 +28,10 @@ use Rattle.run_words.proofs.Replays.{state_more, said_signed}
 use Rattle.run_words.proofs.Walks.{walk_more, parcels_more, made_more, sound_more}
 use Rattle.replica_core.specs.Cores.{Machine}
 use Rattle.replica_log.specs.Keeping.{IsKept, core_after, maker_of, Keeps, IsLive, Enters, Moves}
-use Rattle.replica_log.specs.Posting.{Counts, Draft, AreNumbers, numbered, raised_by, sent_with}
+use Rattle.parcel_post.specs.Posting.{Counts, Draft, AreNumbers, numbered, raised_by, sent_with}
 use Rattle.replica_log.specs.Sending.{Waits, content_in, receivers_in, sent_in, after_sending, parcels_next, ArePacked, IsSealed}
 use Rattle.replica_log.specs.declared.keepers.Keeper.{Keeper}
-use Rattle.replica_log.proofs.Numbered.{numbered_is_put, numbers_put}
+use Rattle.parcel_post.proofs.Numbered.{numbered_is_put, numbers_put}
 use Rattle.replica_log.proofs.Signed.{signed_spelling}
 use Rattle.replica_log.proofs.Waiting.{waiting_own}
 

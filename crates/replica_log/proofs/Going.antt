@@ -14,7 +14,7 @@ use Rattle.run_words.specs.declared.logs.Entry.{Entry}
 use Rattle.run_words.specs.declared.logs.Parcel.{Parcel}
 use Rattle.run_words.specs.Journal.{Maker, Walk, event_of, state, tick, added, signed_by, walk, parcels_of, moves, IsNext, IsHeardSound}
 use Rattle.replica_log.specs.Entering.{has_entry}
-use Rattle.replica_log.specs.Posting.{Counts, AreNumbers}
+use Rattle.parcel_post.specs.Posting.{Counts, AreNumbers}
 use Rattle.replica_log.specs.Keeping.{IsKept, core_after, maker_of, IsLive, Moves, IsMoving}
 use Rattle.replica_log.specs.declared.keepers.Keeper.{Keeper}
 use Rattle.replica_log.proofs.Growing.{IsMore, kept_more, core_more}

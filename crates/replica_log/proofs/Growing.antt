@@ -7,7 +7,7 @@ use Rattle.run_words.specs.declared.logs.Entry.{Entry}
 use Rattle.run_words.specs.Journal.{Maker, Walk, event_of, tick, added, signed_by, walk, parcels_of, IsNext, IsHeardSound}
 use Rattle.run_words.proofs.Walks.{walk_more, parcels_more, made_more, sound_more}
 use Rattle.run_words.proofs.Replays.{state_more}
-use Rattle.replica_log.specs.Posting.{Counts, AreNumbers}
+use Rattle.parcel_post.specs.Posting.{Counts, AreNumbers}
 use Rattle.replica_log.specs.Keeping.{IsKept, core_after}
 
 -- what an entry adds to what is kept

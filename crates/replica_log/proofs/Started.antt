@@ -9,7 +9,7 @@ use Rattle.run_words.specs.declared.logs.Entry.{Entry}
 use Rattle.run_words.specs.Journal.{Maker, walk}
 use Rattle.run_words.specs.Lawful.{IsKeyed}
 use Rattle.run_words.proofs.Replays.{fresh_is}
-use Rattle.replica_log.specs.Posting.{Counts}
+use Rattle.parcel_post.specs.Posting.{Counts}
 use Rattle.replica_log.specs.Keeping.{IsKept, core_after, maker_of, IsLog}
 use Rattle.replica_log.specs.declared.keepers.Keeper.{Keeper}
 

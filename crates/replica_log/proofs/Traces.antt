@@ -10,7 +10,7 @@ use Rattle.run_words.specs.Runs.{trace_of}
 use Rattle.replica_core.specs.Cores.{Machine}
 use Rattle.replica_log.specs.Keeping.{maker_of, Keeps, IsLive}
 use Rattle.replica_log.specs.Leaving.{left_with}
-use Rattle.replica_log.specs.Posting.{AreSpelled}
+use Rattle.parcel_post.specs.Posting.{AreSpelled}
 use Rattle.replica_log.specs.declared.keepers.Keeper.{Keeper}
 use Rattle.replica_log.proofs.Waiting.{kept_spelled}
 

@@ -26,7 +26,7 @@ use Rattle.run_words.proofs.Replays.{emits}
 use Rattle.run_words.proofs.Placing.{leaf_left}
 use Rattle.run_words.proofs.Walks.{sound_more}
 use Rattle.run_words.proofs.Voices.{IsVoice, AreVoices, voice_is_own, step_voices}
-use Rattle.replica_log.specs.Posting.{IsSpelled, AreSpelled}
+use Rattle.parcel_post.specs.Posting.{IsSpelled, AreSpelled}
 use Rattle.replica_log.proofs.Following.{may_come}
 
 -- ---- what waits

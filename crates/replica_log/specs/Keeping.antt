@@ -11,7 +11,7 @@ use Rattle.run_words.specs.Lawful.{IsKeyed}
 use Rattle.run_words.specs.Acts.{Acted}
 use Rattle.run_words.specs.declared.party.Act.{Act}
 use Rattle.run_words.specs.declared.party.Told.{Told}
-use Rattle.replica_log.specs.Posting.{Counts, AreNumbers}
+use Rattle.parcel_post.specs.Posting.{Counts, AreNumbers}
 use Rattle.replica_log.specs.declared.keepers.Keeper.{Keeper}
 
 -- ---- a journal and what is kept of it

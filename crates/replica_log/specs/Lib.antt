@@ -3,6 +3,4 @@ pub mod Entering
 pub mod Keeping
 pub mod Leaving
 pub mod Logs
-pub mod Posting
 pub mod Sending
-pub mod Walking

@@ -10,7 +10,7 @@ use Rattle.run_words.specs.Journal.{Maker, walk, added, no_item, entry_of}
 use Rattle.run_words.specs.declared.movers.Mover.{Mover}
 use Rattle.run_words.specs.declared.logs.Entry.{Entry}
 use Rattle.run_words.specs.declared.logs.Parcel.{Parcel}
-use Rattle.replica_log.specs.Posting.{Counts, Draft, numbered, raised_by, sent_with}
+use Rattle.parcel_post.specs.Posting.{Counts, Draft, numbered, raised_by, sent_with}
 use Rattle.replica_log.specs.declared.keepers.Keeper.{Keeper}
 
 -- ---- the first item that waits

@@ -12,22 +12,9 @@ use crate::keepers::Keeper;
 use bft_verify::Verified;
 use fab_base::{Answer, Duplicate, NoMemory};
 use lms_tree::Signer;
+use parcel_post::ticked;
 use replica_core::Event;
 use run_words::{Entry, Origin};
-
-/// The clock after hearing from an origin (Lamport's rule). It fails only where the time is the last value of a `u64`, which no clock is
-/// after.
-pub(crate) fn ticked(clock: u64, origin: Origin) -> Result<u64, NoMemory>
-    ensures { IfOk result (λ now. now ≡ tick_by clock origin) }
-{
-    match origin {
-        Origin::Client(_) => Ok(clock),
-        Origin::Replica { time, .. } => match time.checked_add(1) {
-            Some(after) => Ok(clock.max(after)),
-            None => Err(NoMemory),
-        },
-    }
-}
 
 /// What a hearing brings: the clock after it, and its entry.
 #[derive(Drop)]

@@ -1,7 +1,7 @@
 //! What a log keeps.
-use crate::numbering::Numbers;
 use bft_verify::Keyring;
 use fab_base::{Bytes, Members, ReplicaId};
+use parcel_post::Numbers;
 use replica_core::Core;
 use run_words::Entry;
 

@@ -7,9 +7,9 @@ ghost use Rattle.replica_log.specs.Leaving.{left_with};
 ghost use Rattle.replica_log.specs.Keeping.{maker_of, Keeps, IsLive};
 
 use crate::keepers::Keeper;
-use crate::tracing::parcels_of;
 use fab_base::{NoMemory, Rows};
 use lms_tree::Signer;
+use parcel_post::parcels_of;
 use run_words::{Parcels, Trace};
 
 impl<S: Signer + Drop> Keeper<S> {
@@ -29,6 +29,10 @@ impl<S: Signer + Drop> Keeper<S> {
         let alloc = *self.journal.allocator();
         let unsent = self.core.waiting() as u64;
         drop(self.core);
+        drop(self.members);
+        drop(self.ring);
+        drop(self.numbers);
+        drop(self.signer);
         Trace {
             id: self.me,
             fault: None,

@@ -9,12 +9,13 @@
 //! signer uses a leaf, and leaves the log open.
 //!
 //! Contracts see a [`ReplicaLog`] as a `Log` (`specs/Logs`); what holds of all that it keeps is `specs/Keeping`. Journals, entries and what
-//! is told of them are those of `run_words`: this crate defines none of its own.
+//! is told of them are those of `run_words`: this crate defines none of its own. Parcels, their numbers and the clock after a hearing are
+//! made by `parcel_post`.
 //!
 //! The modules: `logs` has the type, `making` makes one, and `party` has its calls. `keepers` is what a log keeps. `acting` says which act goes
-//! where, and `asking` whether it would make an entry; `hearing` is Hear and the clock, `moving` is what the core does of its own accord
-//! (Batch, Nudge, Execute and Checkpoint), `sending` is Emit, and `entering` is one step of the core with its entry. `numbering` has the numbers of
-//! parcels, `posting` makes parcels, `tracing` those of a whole journal, and `leaving` the trace. `replaying` replays a journal.
+//! where, and `asking` whether it would make an entry; `hearing` is Hear, `moving` is what the core does of its own accord
+//! (Batch, Nudge, Execute and Checkpoint), `sending` is Emit, and `entering` is one step of the core with its entry. `leaving` is the trace.
+//! `replaying` replays a journal.
 #![tactic(auto)]
 
 mod acting;
@@ -26,12 +27,9 @@ mod leaving;
 mod logs;
 mod making;
 mod moving;
-mod numbering;
 mod party;
-mod posting;
 mod replaying;
 mod sending;
-mod tracing;
 
 pub use logs::ReplicaLog;
 pub use making::replica_log;

@@ -10,9 +10,10 @@ ghost use Rattle.replica_core.specs.Cores as cores;
 ghost use Rattle.run_words.specs.Journal as journals;
 ghost use Rattle.run_words.specs.Journal.{Maker, state, IsMade, AreSound};
 
+use crate::making::fresh_core;
 use bft_msg::{Shaped, shape};
 use fab_base::{Bytes, Duplicate, Members, Message, NoMemory, ReplicaId};
-use replica_core::{Core, Event, core};
+use replica_core::{Core, Event};
 use run_words::Entry;
 use std::alloc::Global;
 
@@ -104,7 +105,7 @@ pub fn replay(
     ensures { IfOk result (λ core. (m : Maker) → m.roster ≡ members → m.id ≡ me
         → core ≡ record { roster = members; me = me; state = state m journal.now; shut = false }) }
 {
-    let mut replica = core(alloc, members.share()?, me)?;
+    let mut replica = fresh_core(alloc, &members, me)?;
     match redo_all(alloc, &members, &mut replica, journal) {
         Ok(()) => Ok(replica),
         Err(NoMemory) => {

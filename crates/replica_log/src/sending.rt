@@ -6,15 +6,14 @@ ghost use Rattle.run_words.specs.Journal.{moves, entry_of};
 ghost use Rattle.run_words.specs.Acts.{told_of_emit};
 ghost use Rattle.run_words.specs.declared.movers.Mover.{Mover};
 ghost use Rattle.replica_log.specs.Keeping.{maker_of, Keeps, IsLive, IsLiveThen, Enters, Moves};
-ghost use Rattle.replica_log.specs.Posting.{sent_with};
+ghost use Rattle.parcel_post.specs.Posting.{sent_with};
 ghost use Rattle.replica_log.specs.Sending.{Waits, content_in, receivers_in, sent_in, after_sending, parcels_next, ArePacked, IsSealed};
 
 use crate::keepers::Keeper;
-use crate::numbering::Numbers;
-use crate::posting::{Prepared, prepare};
 use fab_base::{Answer, Bytes, Item, NoMemory, ReplicaId};
 use fab_codec::put_u16;
 use lms_tree::{SignFault, Signer};
+use parcel_post::{Numbers, Prepared, prepare};
 use replica_core::{Core, Event};
 use run_words::{Entry, Parcels, Told};
 use std::alloc::Global;
@@ -158,8 +157,14 @@ impl<S: Signer + Drop> Keeper<S> {
             &mut self.signed,
             &mut self.signer,
             out.content.as_slice(),
-        )?;
-        Ok(self.seal(out, sig))
+        );
+        match sig {
+            Ok(sig) => Ok(self.seal(out, sig)),
+            Err(NoMemory) => {
+                drop(out);
+                Err(NoMemory)
+            }
+        }
     }
 
     /// Sends the first item that waits, signed by the next leaf where the replica itself signs it. All memory is taken before the leaf is

@@ -1,13 +1,9 @@
-use Rattle.std.proofs.Common.{false, ap, refl, ◌∙◌}
-use Rattle.fab_base.specs.Limits.{Roster}
-use Rattle.fab_machine.specs.State.{fresh}
-use Rattle.replica_core.specs.Cores.{Machine}
+use Rattle.std.proofs.Common.{refl}
 use Rattle.replica_log.proofs.Started.{starts}
 use Rattle.replica_log.proofs.making.replica_log.Goals as goal
 
 pub invariant_of-result : goal.invariant_of-result
 invariant_of-result g c =
-    let core_of : Roster → Machine = λ r. record { roster = r; me = c.args.me; state = fresh r c.args.me; shut = false } in
     starts g.S.Signer.limit g.S.Signer.made g.S.Signer.gives _ c.clusters-clusters.ensures.limits c.requires.member
     (record {
       key = g.S.Signer.key c.args.signer;
@@ -16,4 +12,4 @@ invariant_of-result g c =
       fits = c.requires.fits;
     })
     refl c.new.ensures.items c.new-2.ensures.items c.new-3.ensures c.requires.unused
-    (c.in_ok-core.ensures ∙ ap core_of c.in_ok-share.ensures)
+    c.in-Ok.ensures

@@ -1,5 +1,5 @@
 use Rattle.std.proofs.Common.{sym, subst}
-use Rattle.replica_log.specs.Posting.{AreSpelled}
+use Rattle.parcel_post.specs.Posting.{AreSpelled}
 use Rattle.replica_log.proofs.Traces.{spelled}
 use Rattle.replica_log.proofs.keepers.Keeper.parcels.Goals as goal
 

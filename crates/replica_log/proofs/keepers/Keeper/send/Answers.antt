@@ -7,36 +7,36 @@ use Rattle.replica_log.proofs.keepers.Keeper.send.Goals as goal
 
 ready : (g : Given.Over) (c : goal.After-seal g)
     → IsReady (maker_of g.S.Signer.limit g.S.Signer.gives c.args.self.now) c.args.self.now.journal.items c.args.self.now.clock c.args.self.now.signed.items c.args.self.now.numbers
-    (g.S.Signer.made c.args.self.now.signer) c.in_ok-out.out.content c.in_ok-out.out.parcels c.in_ok-sig.sig
+    (g.S.Signer.made c.args.self.now.signer) c.in_ok-out.out.content c.in_ok-out.out.parcels c.in-Ok.sig
 ready g c =
     let k = c.args.self.now in
     is_ready (maker_of g.S.Signer.limit g.S.Signer.gives k) k.journal.items k.clock k.signed.items k.numbers (g.S.Signer.made k.signer) k.core
-    c.in_ok-out.out.content c.in_ok-out.out.parcels c.in_ok-sig.sig (tree_signature_len (g.S.Signer.key k.signer).ots (g.S.Signer.key k.signer).height)
+    c.in_ok-out.out.content c.in_ok-out.out.parcels c.in-Ok.sig (tree_signature_len (g.S.Signer.key k.signer).ots (g.S.Signer.key k.signer).height)
     c.requires.kept c.requires.live c.requires.waits c.requires.unspent c.in_ok-out.ensures.content c.in_ok-out.ensures.parcels
-    (c.in_ok-sig.ensures.signed.0 ∙ ap (g.S.Signer.gives k.signer (g.S.Signer.made k.signer)) c.as_slice.ensures) c.in_ok-sig.ensures.len
+    (c.in-Ok.ensures.signed.0 ∙ ap (g.S.Signer.gives k.signer (g.S.Signer.made k.signer)) c.as_slice.ensures) c.in-Ok.ensures.len
 
-pub returns-clause-parcels : goal.returns-clause-parcels
-returns-clause-parcels g c =
+pub returns-in-Ok-clause-parcels : goal.returns-in-Ok-clause-parcels
+returns-in-Ok-clause-parcels g c =
     let k = c.args.self.now in
     c.seal.ensures.parcels
     ∙ parcels_are (maker_of g.S.Signer.limit g.S.Signer.gives k) k.journal.items k.clock k.signed.items k.numbers (g.S.Signer.made k.signer)
-    c.in_ok-out.out.content c.in_ok-out.out.parcels c.in_ok-sig.sig (ready g c)
+    c.in_ok-out.out.content c.in_ok-out.out.parcels c.in-Ok.sig (ready g c)
 
-pub returns-clause-enters : goal.returns-clause-enters
-returns-clause-enters g c =
+pub returns-in-Ok-clause-enters : goal.returns-in-Ok-clause-enters
+returns-in-Ok-clause-enters g c =
     let k = c.args.self.now in
-    entered g.S.Signer.limit g.S.Signer.made g.S.Signer.gives k _ c.seal.new.self c.in_ok-out.out.content c.in_ok-out.out.parcels c.in_ok-sig.sig
+    entered g.S.Signer.limit g.S.Signer.made g.S.Signer.gives k _ c.seal.new.self c.in_ok-out.out.content c.in_ok-out.out.parcels c.in-Ok.sig
     (ready g c) c.requires.live
     (record {
       me = refl;
       members = refl;
       ring = refl;
       core = refl;
-      journal = c.sign.ensures.items.0;
+      journal = c.sign-sig.ensures.items.0;
       clock = refl;
-      earlier = c.sign.ensures.items.1;
-      limit_is = c.sign.ensures.same.1;
-      gives_is = c.sign.ensures.same.2;
-      makes = c.in_ok-sig.ensures.signed.1;
+      earlier = c.sign-sig.ensures.items.1;
+      limit_is = c.sign-sig.ensures.same.1;
+      gives_is = c.sign-sig.ensures.same.2;
+      makes = c.in-Ok.ensures.signed.1;
     })
     c.seal.ensures.sealed

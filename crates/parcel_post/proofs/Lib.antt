@@ -1,0 +1,4 @@
+pub mod Numbered
+mod Raising
+mod Ending
+mod Tracked
