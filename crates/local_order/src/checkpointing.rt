@@ -149,7 +149,8 @@ impl State {
         self.slots.move_low(low);
         self.next = self.next.max(low + 1);
         self.checkpoints.prune(low);
-        self.proof = proof.unwrap_or(StableVotes::new(alloc));
+        let proof = proof.unwrap_or(StableVotes::new(alloc));
+        drop(std::mem::replace(&mut self.proof, proof));
         std::mem::replace(&mut self.kept, Rows::new(alloc))
     }
 
@@ -192,13 +193,13 @@ fn empty_first(places: &mut [Option<PreparedCert>], count: usize)
     ensures { places.new ≡ replicate count None ++ drop count places.old }
 {
     for place in places[..count].iter_mut() {
-        *place = None;
+        drop(place.take());
     }
 }
 
 /// Empties the first so many places, and puts them last.
-fn leave_places(places: &mut [Option<PreparedCert>], count: u64)
-    ensures { places.new ≡ moved_places count places.old }
+fn leave_places(places: &mut Vec<Option<PreparedCert>>, count: u64)
+    ensures { places.new.items ≡ moved_places count places.old.items }
 {
     let count = count.min(places.len() as u64) as usize;
     empty_first(places, count);

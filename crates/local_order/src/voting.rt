@@ -147,7 +147,7 @@ impl State {
     {
         let certificate = self.prepared_certificate(slot, digest)?;
         if let Ok(place) = self.slots.place_of(slot) {
-            self.prepared[place] = Some(certificate);
+            drop(self.prepared[place].replace(certificate));
         }
         Ok(())
     }
