@@ -197,12 +197,12 @@ certificate_reported r me l full slot d is heard prepared =
 -- ---- the certificate of a committed slot
 
 -- it is one, for its slot, and of clients whose home is here
-record IsFormed (r : Roster) (me : ReplicaId) (l : Local) (slot : ℕ) (d : Hash32) : Type 0 where
-  round_is : round_of (commit_certificate me l slot d) ≡ slot
-  certificate : IsCertificate (length r.sizes) (commit_certificate me l slot d)
-  homes : IsTrue (is_batch_of r me.cluster (commit_certificate me l slot d).batch)
+pub record IsFormed (r : Roster) (me : ReplicaId) (l : Local) (slot : ℕ) (d : Hash32) : Type 0 where
+  pub round_is : round_of (commit_certificate me l slot d) ≡ slot
+  pub certificate : IsCertificate (length r.sizes) (commit_certificate me l slot d)
+  pub homes : IsTrue (is_batch_of r me.cluster (commit_certificate me l slot d).batch)
 
-certificate_formed : (r : Roster) (me : ReplicaId) (l : Local) (slot : ℕ) (d : Hash32) → IsMember r me → IsLocalState r me l
+pub certificate_formed : (r : Roster) (me : ReplicaId) (l : Local) (slot : ℕ) (d : Hash32) → IsMember r me → IsLocalState r me l
     → committed_at l.slots slot ≡ Some d → IsFormed r me l slot d
 certificate_formed r me l slot d member is committed =
     let w = l.slots in

@@ -178,7 +178,7 @@ again_answer r me t (m ∷ rest) =
     let now = hear r me t.local m in
     again_answer r me (record { answer = t.answer; local = now.local; outs = t.outs ++ now.outs }) rest
 
-after_puts-append : (me : ReplicaId) (full : List Entry) (a b : List Out) → after_puts me full (a ++ b) ≡ after_puts me (after_puts me full a) b
+pub after_puts-append : (me : ReplicaId) (full : List Entry) (a b : List Out) → after_puts me full (a ++ b) ≡ after_puts me (after_puts me full a) b
 after_puts-append me full [] b = refl
 after_puts-append me full (Out.Put item ∷ rest) b = after_puts-append me (after_saying full (statements_by me item.message)) rest b
 after_puts-append me full (Out.Certified k ∷ rest) b = after_puts-append me full rest b

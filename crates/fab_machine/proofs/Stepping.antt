@@ -35,7 +35,7 @@ use Rattle.fab_machine.proofs.Hearing.{hear_keeps}
 
 -- ---- a message more is heard
 
-hears : (r : Roster) (me : ReplicaId) (s : Replica) (diary : List Entry) (m : Message) → IsShaped r m → AreRelated r me s diary
+pub hears : (r : Roster) (me : ReplicaId) (s : Replica) (diary : List Entry) (m : Message) → IsShaped r m → AreRelated r me s diary
     → AreRelated r me s (Heard m ∷ diary)
 hears r me s diary m fine rel =
     let items = statements_in me s.outbox in
@@ -65,7 +65,7 @@ pub put_last : (me : ReplicaId) (items : List Item) (item : Item) → statements
 put_last me items item =
     flat_map-append (λ i. statements_by me i.message) items (item ∷ []) ∙ ap (λ l. statements_in me items ++ l) (append-nil (statements_by me item.message))
 
-full_put : (me : ReplicaId) (s : Replica) (diary : List Entry) (item : Item)
+pub full_put : (me : ReplicaId) (s : Replica) (diary : List Entry) (item : Item)
     → full_of me (after_out s (Out.Put item)) diary ≡ after_saying (full_of me s diary) (statements_by me item.message)
 full_put me s diary item =
     ap (after_saying diary) (put_last me s.outbox item) ∙ after_saying-both diary (statements_in me s.outbox) (statements_by me item.message)

@@ -1,29 +1,21 @@
--- The last stamps that are counted are those of the table that a ledger's run leaves.
-use Rattle.std.proofs.Common.{◌≡◌, ◌≢◌, ℕ, zero, suc, ◌+◌, ◌<◌, Bool, true, false, cond, nat_eq, nat_le, List, [], ◌∷◌, ◌++◌, length, replicate, slice_index, slice_set, refl, sym, ap, subst, ◌∙◌, arith}
-use Rattle.std.specs.List.{fold, flat_map}
+-- The last stamps that are counted are those of the table that a ledger's run leaves, so they tell what took effect.
+use Rattle.std.proofs.Common.{◌≡◌, ◌≢◌, ℕ, ◌<◌, ◌≤◌, Bool, true, false, nat_eq, nat_le, List, [], ◌∷◌, length, replicate, slice_index, slice_set, refl, sym, ap, subst, ◌∙◌, arith}
+use Rattle.std.specs.List.{fold}
 use Rattle.std.proofs.lemmas.List.{get_or-set_same, get_or-set_other, length-set, length-replicate}
 use Rattle.std.proofs.lemmas.List.Sums.{fold-append}
 use Rattle.std.proofs.lemmas.Bool.Decides.{nat_tests}
 use Rattle.fab_base.specs.Limits.{Roster}
 use Rattle.fab_base.specs.declared.requests.Request.{Request}
-use Rattle.fab_base.specs.Table.{State, last_of, with_stamp, by_stamp, entries_after, state_after, state_after_all}
-use Rattle.fab_base.proofs.Stamps.{slice_index-with_stamp}
+use Rattle.fab_base.specs.Table.{State, last_of, by_stamp, state_after, state_after_all}
 use Rattle.fab_rules.specs.declared.blocks.Block.{Block}
 use Rattle.fab_rules.specs.Ledger.{start_of, state_after_blocks}
-use Rattle.fabric_audit.specs.Stamps.{NUMBERS, counted, counted_all, counted_block, last_stamps}
+use Rattle.fault_script.specs.declared.scripts.Wish.{Wish}
+use Rattle.run_worlds.specs.Endings.{has_effect}
+use Rattle.run_worlds.proofs.Effects as effects
+use Rattle.run_worlds.proofs.Effects.{requests_in, after_requests, read_off, the_same, other_after, own_after, zeros}
+use Rattle.fabric_audit.specs.Stamps.{NUMBERS, counted, counted_all, counted_block, last_stamps, is_served}
 
 -- ---- the requests of all blocks
-
-abbrev pub requests_in : List Block → List Request
-requests_in blocks = flat_map (λ b. b.batch) blocks
-
-after_both : (s : State) (xs ys : List Request) → state_after_all s (xs ++ ys) ≡ state_after_all (state_after_all s xs) ys
-after_both s [] ys = refl
-after_both s (x ∷ xs) ys = after_both (state_after s x) xs ys
-
-pub after_requests : (s : State) (blocks : List Block) → state_after_blocks s blocks ≡ state_after_all s (requests_in blocks)
-after_requests s [] = refl
-after_requests s (b ∷ rest) = after_requests (state_after_all s b.batch) rest ∙ sym (after_both s b.batch (requests_in rest))
 
 counted_requests : (last : List ℕ) (blocks : List Block) → fold counted_block last blocks ≡ counted_all last (requests_in blocks)
 counted_requests last [] = refl
@@ -31,53 +23,6 @@ counted_requests last (b ∷ rest) =
     counted_requests (counted_all last b.batch) rest ∙ sym (fold-append counted last b.batch (requests_in rest))
 
 -- ---- one request
-
-other_stamp : (stamps : List ℕ) (client stamp other : ℕ) → other ≢ client
-    → slice_index (with_stamp stamps client stamp) other ≡ slice_index stamps other
-other_stamp [] zero stamp zero h = absurd (h refl)
-other_stamp [] zero stamp (suc other) h = refl
-other_stamp [] (suc client) stamp zero h = refl
-other_stamp [] (suc client) stamp (suc other) h = other_stamp [] client stamp other (λ e. h (ap suc e))
-other_stamp (s ∷ rest) zero stamp zero h = absurd (h refl)
-other_stamp (s ∷ rest) zero stamp (suc other) h = refl
-other_stamp (s ∷ rest) (suc client) stamp zero h = refl
-other_stamp (s ∷ rest) (suc client) stamp (suc other) h = other_stamp rest client stamp other (λ e. h (ap suc e))
-
--- what is read off where a request takes effect, or not
-read_off : {X : Type 0} (f : X → ℕ) (stamp last : ℕ) (again effect : X)
-    → f (by_stamp stamp last again effect again) ≡ by_stamp stamp last (f again) (f effect) (f again)
-read_off f stamp last again effect = go (nat_le stamp last) (nat_eq stamp (last + 1))
-  where
-    go : (a b : Bool) → f (cond a again (cond b effect again)) ≡ cond a (f again) (cond b (f effect) (f again))
-    go true b = refl
-    go false true = refl
-    go false false = refl
-
-the_same : (stamp last k : ℕ) → by_stamp stamp last k k k ≡ k
-the_same stamp last k = go (nat_le stamp last) (nat_eq stamp (last + 1))
-  where
-    go : (a b : Bool) → cond a k (cond b k k) ≡ k
-    go true b = refl
-    go false true = refl
-    go false false = refl
-
-abbrev taken : State → Request → State
-taken s x = record { entries = entries_after s.entries x.op; stamps = with_stamp s.stamps x.client.number x.stamp }
-
-pub other_after : (s : State) (x : Request) (c : ℕ) → c ≢ x.client.number → last_of (state_after s x) c ≡ last_of s c
-other_after s x c h =
-    let k = last_of s x.client.number in
-    read_off (λ (t : State). last_of t c) x.stamp k s (taken s x)
-    ∙ ap (λ n. by_stamp x.stamp k (last_of s c) n (last_of s c)) (other_stamp s.stamps x.client.number x.stamp c h)
-    ∙ the_same x.stamp k (last_of s c)
-
-pub own_after : (s : State) (x : Request)
-    → last_of (state_after s x) x.client.number
-    ≡ by_stamp x.stamp (last_of s x.client.number) (last_of s x.client.number) x.stamp (last_of s x.client.number)
-own_after s x =
-    let k = last_of s x.client.number in
-    read_off (λ (t : State). last_of t x.client.number) x.stamp k s (taken s x)
-    ∙ ap (λ n. by_stamp x.stamp k k n k) (slice_index-with_stamp s.stamps x.client.number x.stamp)
 
 other_counted : (last : List ℕ) (x : Request) (c : ℕ) → c ≢ x.client.number → slice_index (counted last x) c ≡ slice_index last c
 other_counted last x c h =
@@ -133,11 +78,6 @@ long_all : (last : List ℕ) (xs : List Request) → length (counted_all last xs
 long_all last [] = refl
 long_all last (x ∷ xs) = long_all (counted last x) xs ∙ long_counted last x
 
-pub zeros : (n c : ℕ) → slice_index (replicate n 0) c ≡ 0
-zeros zero c = refl
-zeros (suc n) zero = refl
-zeros (suc n) (suc c) = zeros n c
-
 -- the last stamps of a ledger
 pub last_is : (r : Roster) (blocks : List Block) (c : ℕ) → c < NUMBERS
     → slice_index (last_stamps blocks) c ≡ last_of (state_after_blocks (start_of r) blocks) c
@@ -149,3 +89,8 @@ last_is r blocks c lt =
     ap (λ (l : List ℕ). slice_index l c) (counted_requests start blocks)
     ∙ last_all start (start_of r) (requests_in blocks) (λ k h. zeros NUMBERS k ∙ sym (zeros (length r.homes) k)) c long
     ∙ ap (λ (s : State). last_of s c) (sym (after_requests (start_of r) blocks))
+
+-- what took effect, told by them
+pub effect_is : (r : Roster) (w : Wish) (blocks : List Block) → 1 ≤ w.stamp → w.client.number < NUMBERS
+    → is_served (last_stamps blocks) w ≡ has_effect r w blocks
+effect_is r w blocks some known = ap (nat_le w.stamp) (last_is r blocks w.client.number known) ∙ effects.effect_is r w blocks some

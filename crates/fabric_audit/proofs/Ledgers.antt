@@ -35,7 +35,7 @@ use Rattle.run_worlds.specs.Endings.{has_effect}
 use Rattle.run_worlds.proofs.ScriptLimits.{within_limits}
 use Rattle.fabric_audit.specs.Replayed.{maker_by, IsReplayable, state_by}
 use Rattle.fabric_audit.specs.Stamps.{is_served_in}
-use Rattle.fabric_audit.proofs.Lines.{effect_is}
+use Rattle.fabric_audit.proofs.LastStamps.{effect_is}
 
 -- ---- the replicas of a script take part
 

@@ -1,6 +1,5 @@
 pub mod Prefixes
 pub mod LastStamps
-pub mod Lines
 pub mod Ledgers
 pub mod Served
 pub mod Sums

@@ -15,7 +15,7 @@ use Rattle.fault_script.proofs.Declared.{all_and_one}
 
 -- ---- one request more is counted for its client alone
 
-count_and_one : (client : ℕ) (wishes : List Wish) (wish : Wish) (b : Bool) → nat_eq wish.client.number client ≡ b
+pub count_and_one : (client : ℕ) (wishes : List Wish) (wish : Wish) (b : Bool) → nat_eq wish.client.number client ≡ b
     → count_of client (wishes ++ wish ∷ []) ≡ count_of client wishes + length (cond b (wish ∷ []) [])
 count_and_one client wishes wish b e =
     let mine = λ (w : Wish). nat_eq w.client.number client in

@@ -256,7 +256,7 @@ all_used r run p m a w i =
     all_counted p r run m a i w.fair.turned in
     omega arith
 
-lawful_of : (r : Rules) (run : Run) → AreApart r.makers → IsWell r run → Lawful r (transcript r run)
+pub lawful_of : (r : Rules) (run : Run) → AreApart r.makers → IsWell r run → Lawful r (transcript r run)
 lawful_of r run a w = record {
   script = refl;
   kept = each_of Kept (trace_in run) r.makers

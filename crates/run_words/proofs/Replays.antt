@@ -145,7 +145,7 @@ same_diary m journal h =
 
 -- ---- it is honest
 
-may_come : (m : Maker) (journal : List Entry) → AreSound m journal → (e : Event) → In e (map event_of journal) → MayCome m.roster e
+pub may_come : (m : Maker) (journal : List Entry) → AreSound m journal → (e : Event) → In e (map event_of journal) → MayCome m.roster e
 may_come m [] h e i = absurd i
 may_come m (Entry.Heard origin x ∷ rest) h e (inl q) = subst (MayCome m.roster) q (shaped_from_sound m.roster m.ring x h.0)
 may_come m (Entry.Proposed ∷ rest) h e (inl q) = subst (MayCome m.roster) q tt

@@ -190,10 +190,10 @@ said_shaped r me [] x h i = absurd i
 said_shaped r me (e ∷ past) x h (inl q) = (subst (May r me past) q h.0).shaped_speech
 said_shaped r me (e ∷ past) x h (inr i) = said_shaped r me past x h.1 i
 
-in_said : (me : ReplicaId) (x : Message) → is_own me (signer_of x) ≡ true → In (unsigned x) (statements_by me x)
+pub in_said : (me : ReplicaId) (x : Message) → is_own me (signer_of x) ≡ true → In (unsigned x) (statements_by me x)
 in_said me x h = subst (λ (b : Bool). In (unsigned x) (cond b (unsigned x ∷ []) [])) (sym h) (inl refl)
 
-waiting_said : (me : ReplicaId) (past : List diaries.Entry) (items : List Item) (item : Item) → In item items
+pub waiting_said : (me : ReplicaId) (past : List diaries.Entry) (items : List Item) (item : Item) → In item items
     → is_own me (signer_of item.message) ≡ true
     → In (Said (unsigned item.message)) (after_saying past (statements_in me items))
 waiting_said me past items item i h =
@@ -236,7 +236,7 @@ next_sound m earlier past keyed st h =
 
 -- ---- an entry more
 
-sent_heard : (me : ReplicaId) (o : List Item) (past : List diaries.Entry) (x : Message) → In (Heard x) (diary_sent me o past)
+pub sent_heard : (me : ReplicaId) (o : List Item) (past : List diaries.Entry) (x : Message) → In (Heard x) (diary_sent me o past)
     → In (Heard x) past
 sent_heard me [] past x h = h
 sent_heard me (i ∷ rest) past x h = heard_before past (statements_by me i.message) x h
@@ -251,7 +251,7 @@ heard_more m s (Entry.Sent item) now past h old x i = old x (sent_heard m.id s.o
 heard_more m s Entry.Marked now past h old x i = old x i
 heard_more m s Entry.Executed now past h old x i = old x (heard_before_blocks past (drop (length s.rounds.blocks) now.rounds.blocks) x i)
 
-may_be : (m : Maker) (e : Entry) → IsHeardSound m e → MayCome m.roster (event_of e)
+pub may_be : (m : Maker) (e : Entry) → IsHeardSound m e → MayCome m.roster (event_of e)
 may_be m (Entry.Heard origin x) h = shaped_from_sound m.roster m.ring x h
 may_be m Entry.Proposed h = tt
 may_be m Entry.Nudged h = tt
@@ -270,13 +270,14 @@ stays_more m s past e limits member h st = record {
   heard = heard_more m s e (step m.roster m.id s (event_of e)).state past h st.heard;
 }
 
-put_bytes : (time : ℕ) (bytes : List ℕ) (earlier : List Parcel) (receivers : List ReplicaId) (q : Parcel)
+-- what is put bears its time and its bytes
+pub put_is : (time : ℕ) (bytes : List ℕ) (earlier : List Parcel) (receivers : List ReplicaId) (q : Parcel)
     → In q (put time bytes earlier receivers)
-    → q.bytes ≡ bytes
-put_bytes time bytes earlier [] q h = absurd h
-put_bytes time bytes earlier (to ∷ rest) q (inl e) = ap (λ (x : Parcel). x.bytes) (sym e)
-put_bytes time bytes earlier (to ∷ rest) q (inr h) =
-    put_bytes time bytes
+    → (q.time ≡ time) × (q.bytes ≡ bytes)
+put_is time bytes earlier [] q h = absurd h
+put_is time bytes earlier (to ∷ rest) q (inl e) = (ap (λ (x : Parcel). x.time) (sym e), ap (λ (x : Parcel). x.bytes) (sym e))
+put_is time bytes earlier (to ∷ rest) q (inr h) =
+    put_is time bytes
     (earlier ++ record { to = to; number = count_by (λ x. is_same to x.to) earlier; time = time; bytes = bytes; passes = 1 } ∷ []) rest q h
 
 new_sound : (m : Maker) (earlier : List Entry) (past : List diaries.Entry) (w : Walk) (e : Entry) → IsKeyed m
@@ -286,7 +287,7 @@ unfolding added
 new_sound m earlier past w (Entry.Sent item) keyed st n q i = record {
   message = item.message;
   sound = subst (λ (x : Item). IsSound m.roster m.ring x.message) (sym n.1) (next_sound m earlier past keyed st n.0);
-  spelled = put_bytes w.clock (spelling_of item.message) w.parcels item.to q i;
+  spelled = (put_is w.clock (spelling_of item.message) w.parcels item.to q i).1;
 }
 new_sound m earlier past w (Entry.Heard origin x) keyed st n q i = absurd i
 new_sound m earlier past w Entry.Proposed keyed st n q i = absurd i

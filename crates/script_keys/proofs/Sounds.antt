@@ -147,7 +147,7 @@ judged_sound : (roster : Roster) (ring : Ring) (x : Message) (l : List Refusal) 
 judged_sound roster ring x [] e = refl
 judged_sound roster ring x (y ∷ l) e = absurd cc
 
-read : (m : Maker) (x : Message) → are_bytes (spelling_of x) ≡ true → IsSound m.roster m.ring x → reads m (spelling_of x) ≡ Ok x
+pub read : (m : Maker) (x : Message) → are_bytes (spelling_of x) ≡ true → IsSound m.roster m.ring x → reads m (spelling_of x) ≡ Ok x
 unfolding reads
 read m x b h =
     ap (λ t. cond t (judged_as_read m.roster m.ring (reading_of (spelling_of x))) (Err (Refusal.Decode (CodeFault.BadTag 0)))) b
@@ -161,7 +161,7 @@ pub record IsOwned (i : ReplicaId) (l : List (ReplicaId × Pending)) (c : Pendin
   pub is_in : In pair l
   pub is : pair.1 ≡ c
 
-owned : (i : ReplicaId) (l : List (ReplicaId × Pending)) (c : Pending) → In c (of i l) → IsOwned i l c
+pub owned : (i : ReplicaId) (l : List (ReplicaId × Pending)) (c : Pending) → In c (of i l) → IsOwned i l c
 owned i [] c h = absurd h
 owned i (p ∷ l) c h = go (is_same i p.0) h (λ k. owned i l c k)
   where
@@ -179,7 +179,7 @@ pub record IsCopy (script : Script) (ws : List Wish) (p : ReplicaId × Pending) 
   pub place : ℕ
   pub is : p.1 ≡ pending_of place (request_of script wish)
 
-copied : (script : Script) (k : ℕ) (ws : List Wish) (p : ReplicaId × Pending) → In p (copies_from script k (map (request_of script) ws)) → IsCopy script ws p
+pub copied : (script : Script) (k : ℕ) (ws : List Wish) (p : ReplicaId × Pending) → In p (copies_from script k (map (request_of script) ws)) → IsCopy script ws p
 copied script k [] p h = absurd h
 copied script k (w ∷ ws) p h =
     let r = request_of script w in

@@ -1,19 +1,84 @@
--- A request has a line that says that it took effect exactly where its stamp is at most the last one of its client.
-use Rattle.std.proofs.Common.{◌≡◌, ◌≢◌, ℕ, ◌+◌, ◌≤◌, ◌<◌, Bool, true, false, cond, ◌&&◌, ◌||◌, nat_eq, nat_le, List, [], ◌∷◌, ◌++◌, length, refl, sym, ap, subst, ◌∙◌, arith}
-use Rattle.std.specs.List.{list_any}
+-- A request takes effect in the run of a ledger exactly where its stamp is at most the last one of its client in the table that the run leaves.
+use Rattle.std.proofs.Common.{◌≡◌, ◌≢◌, ℕ, zero, suc, ◌+◌, ◌≤◌, ◌<◌, Bool, true, false, cond, ◌&&◌, ◌||◌, nat_eq, nat_le, List, [], ◌∷◌, ◌++◌, length, replicate, slice_index, refl, sym, ap, subst, ◌∙◌, arith}
+use Rattle.std.specs.List.{flat_map, list_any}
 use Rattle.std.proofs.lemmas.Bool.Decides.{nat_tests}
 use Rattle.fab_base.specs.Limits.{Roster}
 use Rattle.fab_base.specs.declared.requests.Outcome.TheVariants.{Done, Again, Early}
 use Rattle.fab_base.specs.declared.requests.Request.{Request}
 use Rattle.fab_base.specs.declared.messages.NoteLine.{NoteLine}
-use Rattle.fab_base.specs.Table.{State, last_of, by_stamp, reply_at, value_of, key_of, outcome_of, outcomes_of, state_after, state_after_all}
-use Rattle.fab_base.proofs.Stamps.{last_of-state_after}
+use Rattle.fab_base.specs.Table.{State, last_of, with_stamp, by_stamp, entries_after, reply_at, value_of, key_of, outcome_of, outcomes_of, state_after, state_after_all}
+use Rattle.fab_base.proofs.Stamps.{slice_index-with_stamp, last_of-state_after}
 use Rattle.fab_rules.specs.declared.blocks.Block.{Block}
-use Rattle.fab_rules.specs.Ledger.{start_of, run_from, lines_with, all_lines}
+use Rattle.fab_rules.specs.Ledger.{start_of, state_after_blocks, run_from, lines_with, all_lines}
 use Rattle.fault_script.specs.declared.scripts.Wish.{Wish}
 use Rattle.run_worlds.specs.Endings.{is_done, is_effect_of, has_effect}
-use Rattle.fabric_audit.specs.Stamps.{NUMBERS, last_stamps, is_served}
-use Rattle.fabric_audit.proofs.LastStamps.{requests_in, after_requests, other_after, own_after, zeros, last_is}
+
+-- ---- the requests of all blocks
+
+abbrev pub requests_in : List Block → List Request
+requests_in blocks = flat_map (λ b. b.batch) blocks
+
+after_both : (s : State) (xs ys : List Request) → state_after_all s (xs ++ ys) ≡ state_after_all (state_after_all s xs) ys
+after_both s [] ys = refl
+after_both s (x ∷ xs) ys = after_both (state_after s x) xs ys
+
+pub after_requests : (s : State) (blocks : List Block) → state_after_blocks s blocks ≡ state_after_all s (requests_in blocks)
+after_requests s [] = refl
+after_requests s (b ∷ rest) = after_requests (state_after_all s b.batch) rest ∙ sym (after_both s b.batch (requests_in rest))
+
+-- ---- one request
+
+other_stamp : (stamps : List ℕ) (client stamp other : ℕ) → other ≢ client
+    → slice_index (with_stamp stamps client stamp) other ≡ slice_index stamps other
+other_stamp [] zero stamp zero h = absurd (h refl)
+other_stamp [] zero stamp (suc other) h = refl
+other_stamp [] (suc client) stamp zero h = refl
+other_stamp [] (suc client) stamp (suc other) h = other_stamp [] client stamp other (λ e. h (ap suc e))
+other_stamp (s ∷ rest) zero stamp zero h = absurd (h refl)
+other_stamp (s ∷ rest) zero stamp (suc other) h = refl
+other_stamp (s ∷ rest) (suc client) stamp zero h = refl
+other_stamp (s ∷ rest) (suc client) stamp (suc other) h = other_stamp rest client stamp other (λ e. h (ap suc e))
+
+-- what is read off where a request takes effect, or not
+pub read_off : {X : Type 0} (f : X → ℕ) (stamp last : ℕ) (again effect : X)
+    → f (by_stamp stamp last again effect again) ≡ by_stamp stamp last (f again) (f effect) (f again)
+read_off f stamp last again effect = go (nat_le stamp last) (nat_eq stamp (last + 1))
+  where
+    go : (a b : Bool) → f (cond a again (cond b effect again)) ≡ cond a (f again) (cond b (f effect) (f again))
+    go true b = refl
+    go false true = refl
+    go false false = refl
+
+pub the_same : (stamp last k : ℕ) → by_stamp stamp last k k k ≡ k
+the_same stamp last k = go (nat_le stamp last) (nat_eq stamp (last + 1))
+  where
+    go : (a b : Bool) → cond a k (cond b k k) ≡ k
+    go true b = refl
+    go false true = refl
+    go false false = refl
+
+abbrev taken : State → Request → State
+taken s x = record { entries = entries_after s.entries x.op; stamps = with_stamp s.stamps x.client.number x.stamp }
+
+pub other_after : (s : State) (x : Request) (c : ℕ) → c ≢ x.client.number → last_of (state_after s x) c ≡ last_of s c
+other_after s x c h =
+    let k = last_of s x.client.number in
+    read_off (λ (t : State). last_of t c) x.stamp k s (taken s x)
+    ∙ ap (λ n. by_stamp x.stamp k (last_of s c) n (last_of s c)) (other_stamp s.stamps x.client.number x.stamp c h)
+    ∙ the_same x.stamp k (last_of s c)
+
+pub own_after : (s : State) (x : Request)
+    → last_of (state_after s x) x.client.number
+    ≡ by_stamp x.stamp (last_of s x.client.number) (last_of s x.client.number) x.stamp (last_of s x.client.number)
+own_after s x =
+    let k = last_of s x.client.number in
+    read_off (λ (t : State). last_of t x.client.number) x.stamp k s (taken s x)
+    ∙ ap (λ n. by_stamp x.stamp k k n k) (slice_index-with_stamp s.stamps x.client.number x.stamp)
+
+pub zeros : (n c : ℕ) → slice_index (replicate n 0) c ≡ 0
+zeros zero c = refl
+zeros (suc n) zero = refl
+zeros (suc n) (suc c) = zeros n c
 
 -- ---- the lines of all blocks
 
@@ -105,10 +170,10 @@ any_line w s (x ∷ xs) lt = go (is_effect_of w (line_of s x)) (one_step w s x l
         grind (arith, nat_tests)
     go false h later = later h
 
-pub effect_is : (r : Roster) (w : Wish) (blocks : List Block) → 1 ≤ w.stamp → w.client.number < NUMBERS
-    → is_served (last_stamps blocks) w ≡ has_effect r w blocks
-effect_is r w blocks some known =
+pub effect_is : (r : Roster) (w : Wish) (blocks : List Block) → 1 ≤ w.stamp
+    → nat_le w.stamp (last_of (state_after_blocks (start_of r) blocks) w.client.number) ≡ has_effect r w blocks
+effect_is r w blocks some =
     let below : last_of (start_of r) w.client.number < w.stamp = omega (arith, some, zeros (length r.homes) w.client.number) in
-    ap (nat_le w.stamp) (last_is r blocks w.client.number known ∙ ap (λ (s : State). last_of s w.client.number) (after_requests (start_of r) blocks))
+    ap (λ (s : State). nat_le w.stamp (last_of s w.client.number)) (after_requests (start_of r) blocks)
     ∙ sym (any_line w (start_of r) (requests_in blocks) below)
     ∙ ap (list_any (is_effect_of w)) (sym (lines_requests (start_of r) blocks))
