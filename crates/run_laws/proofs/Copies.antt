@@ -30,15 +30,15 @@ use Rattle.script_keys.proofs.Sounds.{owned, copied}
 
 -- ---- sums
 
-record HasSome {X : Type 0} (f : X → ℕ) (xs : List X) : Type 0 where
-  item : X
-  is_in : In item xs
-  counts : 1 ≤ f item
+pub record HasSome {X : Type 0} (f : X → ℕ) (xs : List X) : Type 0 where
+  pub item : X
+  pub is_in : In item xs
+  pub counts : 1 ≤ f item
 
 some_later : {X : Type 0} (f : X → ℕ) (x : X) (xs : List X) → HasSome f xs → HasSome f (x ∷ xs)
 some_later f x xs h = record { item = h.item; is_in = inr h.is_in; counts = h.counts }
 
-some_counts : {X : Type 0} (f : X → ℕ) (xs : List X) → 1 ≤ sum_by f xs → HasSome f xs
+pub some_counts : {X : Type 0} (f : X → ℕ) (xs : List X) → 1 ≤ sum_by f xs → HasSome f xs
 some_counts f [] h = absurd (omega (arith, h))
 some_counts f (x ∷ xs) h = go (f x) refl (some_counts f xs)
   where
@@ -46,12 +46,12 @@ some_counts f (x ∷ xs) h = go (f x) refl (some_counts f xs)
     go zero e later = some_later f x xs (later (let one = sum_by-cons f x xs in omega (arith, one, e, h)))
     go (suc n) e later = record { item = x; is_in = inl refl; counts = omega (arith, e) }
 
-one_counts : {X : Type 0} (f : X → ℕ) (xs : List X) (x : X) → In x xs → f x ≤ sum_by f xs
+pub one_counts : {X : Type 0} (f : X → ℕ) (xs : List X) (x : X) → In x xs → f x ≤ sum_by f xs
 one_counts f [] x i = absurd i
 one_counts f (y ∷ xs) x (inl e) = let one = sum_by-cons f y xs in let here : f y ≡ f x = ap f e in omega (arith, one, here)
 one_counts f (y ∷ xs) x (inr i) = let one = sum_by-cons f y xs in let later = one_counts f xs x i in omega (arith, one, later)
 
-tested : (b : Bool) → 1 ≤ cond b 1 0 → b ≡ true
+pub tested : (b : Bool) → 1 ≤ cond b 1 0 → b ≡ true
 tested true h = refl
 tested false h = absurd (omega (arith, h))
 
@@ -134,10 +134,10 @@ abbrev pub of_time : ℕ → List ℕ → Test
 of_time time bytes (Origin.Client k) load = false
 of_time time bytes (Origin.Replica from sent) load = nat_eq sent time && bytes_eq load bytes
 
-same_bytes : (a b : List ℕ) → bytes_eq a b ≡ true → a ≡ b
+pub same_bytes : (a b : List ℕ) → bytes_eq a b ≡ true → a ≡ b
 same_bytes a b h = (bytes_eq-Decides a b).0 h
 
-self_bytes : (a : List ℕ) → bytes_eq a a ≡ true
+pub self_bytes : (a : List ℕ) → bytes_eq a a ≡ true
 self_bytes a = (bytes_eq-Decides a a).1 refl
 
 client_load : (bytes load : List ℕ) (origin : Origin) → of_client bytes origin load ≡ true → load ≡ bytes

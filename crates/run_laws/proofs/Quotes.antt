@@ -11,7 +11,8 @@ use Rattle.fab_base.specs.declared.messages.Message.{Message}
 use Rattle.fab_base.specs.declared.requests.Request.{Request}
 use Rattle.fab_rules.specs.Diary as diaries
 use Rattle.fab_rules.specs.Diary.{Heard, Said, StatementHeard}
-use Rattle.fab_rules.specs.Format.{is_u64, id_fits, digest_fits, signature_fits, batch_fits, lines_fit, fits}
+use Rattle.fab_base.specs.Fields.{op_fits}
+use Rattle.fab_rules.specs.Format.{is_u8, is_u32, is_u64, id_fits, digest_fits, signature_fits, batch_fits, proof_fits, certificates_fit, view_changes_fit, lines_fit, fields_fit, fits}
 use Rattle.fab_rules.specs.Growth.{after_saying}
 use Rattle.fab_rules.specs.Lists.{In, first_of}
 use Rattle.fab_rules.specs.Spelling.{spelling_of, content_of}
@@ -81,35 +82,38 @@ keep : (a x y : Bool) → (x ≡ true → y ≡ true) → (a && x) ≡ true → 
 keep true x y f h = f h
 keep false x y f h = absurd cc
 
+pub signed_fits : (sig : List ℕ) (m : Message) → signature_fits sig ≡ true → fields_fit (unsigned m) ≡ true → fields_fit (with_sig sig m) ≡ true
+signed_fits sig (Message.Request x) f h = keep (is_u8 x.client.number) _ _ (keep (is_u32 x.stamp) _ _ (keep (op_fits x.op) _ _ (λ z. f))) h
+signed_fits sig (Message.PrePrepare x) f h = keep (id_fits x.signer) _ _ (keep (is_u64 x.view) _ _ (keep (is_u64 x.slot) _ _ (keep (batch_fits x.batch) _ _ (λ z. f)))) h
+signed_fits sig (Message.Prepare x) f h = keep (id_fits x.signer) _ _ (keep (is_u64 x.view) _ _ (keep (is_u64 x.slot) _ _ (keep (digest_fits x.digest) _ _ (λ z. f)))) h
+signed_fits sig (Message.Commit x) f h = keep (id_fits x.signer) _ _ (keep (is_u64 x.view) _ _ (keep (is_u64 x.slot) _ _ (keep (digest_fits x.digest) _ _ (λ z. f)))) h
+signed_fits sig (Message.Checkpoint x) f h = keep (id_fits x.signer) _ _ (keep (is_u64 x.round) _ _ (keep (digest_fits x.digest) _ _ (λ z. f))) h
+signed_fits sig (Message.ViewChange x) f h =
+    keep (id_fits x.signer) _ _ (keep (is_u64 x.view) _ _ (keep (is_u64 x.low) _ _ (keep (proof_fits x.proof) _ _ (keep (certificates_fit x.prepared) _ _ (λ z. f))))) h
+signed_fits sig (Message.NewView x) f h = keep (id_fits x.signer) _ _ (keep (is_u64 x.view) _ _ (keep (view_changes_fit x.changes) _ _ (λ z. f))) h
+signed_fits sig (Message.Drvc x) f h = keep (id_fits x.signer) _ _ (keep (is_u8 x.target) _ _ (keep (is_u64 x.round) _ _ (keep (is_u32 x.count) _ _ (λ z. f)))) h
+signed_fits sig (Message.Rvc x) f h = keep (id_fits x.signer) _ _ (keep (is_u8 x.target) _ _ (keep (is_u64 x.round) _ _ (keep (is_u32 x.count) _ _ (λ z. f)))) h
+signed_fits sig (Message.ReplyNote x) f h = keep (id_fits x.signer) _ _ (keep (is_u64 x.round) _ _ (keep (digest_fits x.digest) _ _ (keep (lines_fit x.lines) _ _ (λ z. f)))) h
+signed_fits sig (Message.Share x) f h = h
+signed_fits sig (Message.Fetch x) f h = h
+
 spelled_again : (me : ReplicaId) (sig : List ℕ) (x : Message) → IsVoice me x → signature_fits sig ≡ true → fits (unsigned x) ≡ true
     → fits (with_sig sig x) ≡ true
-spelled_again me sig (Message.PrePrepare x) v f h =
-    proposal_is_spelled (record x { sig = sig })
-    (keep (id_fits x.signer) _ _ (keep (is_u64 x.view) _ _ (keep (is_u64 x.slot) _ _ (keep (batch_fits x.batch) _ _ (λ z. f))))
-    (fields_are (unsigned (Message.PrePrepare x)) h))
-spelled_again me sig (Message.Prepare x) v f h =
-    prepare_is_spelled (record x { sig = sig })
-    (keep (id_fits x.signer) _ _ (keep (is_u64 x.view) _ _ (keep (is_u64 x.slot) _ _ (keep (digest_fits x.digest) _ _ (λ z. f))))
-    (fields_are (unsigned (Message.Prepare x)) h))
-spelled_again me sig (Message.Commit x) v f h =
-    commit_is_spelled (record x { sig = sig })
-    (keep (id_fits x.signer) _ _ (keep (is_u64 x.view) _ _ (keep (is_u64 x.slot) _ _ (keep (digest_fits x.digest) _ _ (λ z. f))))
-    (fields_are (unsigned (Message.Commit x)) h))
-spelled_again me sig (Message.Checkpoint x) v f h =
-    checkpoint_is_spelled (record x { sig = sig })
-    (keep (id_fits x.signer) _ _ (keep (is_u64 x.round) _ _ (keep (digest_fits x.digest) _ _ (λ z. f)))
-    (fields_are (unsigned (Message.Checkpoint x)) h))
-spelled_again me sig (Message.ReplyNote x) v f h =
-    note_is_spelled (record x { sig = sig })
-    (keep (id_fits x.signer) _ _ (keep (is_u64 x.round) _ _ (keep (digest_fits x.digest) _ _ (keep (lines_fit x.lines) _ _ (λ z. f))))
-    (fields_are (unsigned (Message.ReplyNote x)) h))
-spelled_again me sig (Message.Request x) v f h = absurd v
-spelled_again me sig (Message.ViewChange x) v f h = absurd v
-spelled_again me sig (Message.NewView x) v f h = absurd v
-spelled_again me sig (Message.Drvc x) v f h = absurd v
-spelled_again me sig (Message.Rvc x) v f h = absurd v
-spelled_again me sig (Message.Share x) v f h = absurd v
-spelled_again me sig (Message.Fetch x) v f h = absurd v
+spelled_again me sig x v f h = by x v (signed_fits sig x f (fields_are (unsigned x) h))
+  where
+    by : (x : Message) → IsVoice me x → fields_fit (with_sig sig x) ≡ true → fits (with_sig sig x) ≡ true
+    by (Message.PrePrepare x) v fine = proposal_is_spelled (record x { sig = sig }) fine
+    by (Message.Prepare x) v fine = prepare_is_spelled (record x { sig = sig }) fine
+    by (Message.Commit x) v fine = commit_is_spelled (record x { sig = sig }) fine
+    by (Message.Checkpoint x) v fine = checkpoint_is_spelled (record x { sig = sig }) fine
+    by (Message.ReplyNote x) v fine = note_is_spelled (record x { sig = sig }) fine
+    by (Message.Request x) v fine = absurd v
+    by (Message.ViewChange x) v fine = absurd v
+    by (Message.NewView x) v fine = absurd v
+    by (Message.Drvc x) v fine = absurd v
+    by (Message.Rvc x) v fine = absurd v
+    by (Message.Share x) v fine = absurd v
+    by (Message.Fetch x) v fine = absurd v
 
 -- ---- its parts: the statement itself, and the requests of a proposal
 
