@@ -37,8 +37,9 @@ fn log_of(
     replica_log(alloc, members.share()?, ring.share()?, me, signer)
 }
 
-/// The log of each replica of a script, by id.
-pub(crate) fn logs_of(
+/// The log of each replica of a script, by id, before a run: each is made with the script's members and ring and with its own key, which has
+/// signed nothing yet. The members, the ring, the replicas and their signers are the script's. It fails only where memory is refused.
+pub fn logs_of(
     alloc: Global,
     script: &Script,
     members: &Members,
