@@ -1,5 +1,5 @@
 -- Logs that stand go on standing when one of them hears what was let in for it.
-use Rattle.std.proofs.Common.{◌≡◌, ℕ, zero, suc, ◌<◌, Bool, false, List, [], ◌∷◌, ◌++◌, map, length, get_or, refl, sym, subst, ◌∙◌, arith, Result, Ok, Err, OnOk}
+use Rattle.std.proofs.Common.{◌≡◌, ℕ, zero, suc, ◌<◌, Bool, false, List, [], ◌∷◌, ◌++◌, map, length, take, get_or, refl, sym, ap, subst, ◌∙◌, arith, Result, Ok, Err, OnOk}
 use Rattle.std.specs.List.{All}
 use Rattle.std.proofs.Math.ListN.{set}
 use Rattle.fab_base.specs.Limits.{Roster}
@@ -34,20 +34,16 @@ pub fresh_stand : (script : Script) (logs : List (Log Leaves)) → logs ≡ logs
 fresh_stand script logs e = subst (λ (l : List (Log Leaves)). AreStanding (makers_of script) l) (sym e) (fresh_from script (replicas_of script))
 
 -- what was let in for a script's members and keys was let in for each of its logs
-for_from : (script : Script) (heard : Admitted) → heard.members ≡ roster_of script → heard.ring ≡ ring_of script → (ids : List ReplicaId)
-    → All (IsForLog heard) (map (log_of script) ids)
-for_from script heard m r [] = tt
-for_from script heard m r (i ∷ ids) = ((m, r), for_from script heard m r ids)
+for_from : (script : Script) (heard : Admitted) → heard.members ≡ roster_of script → heard.ring ≡ ring_of script
+    → (ids : List ReplicaId) (k : ℕ) (d : Log Leaves) → k < length (map (log_of script) ids) → IsForLog heard (get_or (map (log_of script) ids) k d)
+for_from script heard m r [] k d h = absurd (omega arith)
+for_from script heard m r (i ∷ ids) zero d h = (m, r)
+for_from script heard m r (i ∷ ids) (suc k) d h = for_from script heard m r ids k d (omega arith)
 
 pub for_all : (script : Script) (heard : Admitted) (members : Roster) (ring : Ring) (logs : List (Log Leaves)) → heard.members ≡ members
     → heard.ring ≡ ring → members ≡ roster_of script → ring ≡ ring_of script → logs ≡ logs_of script → All (IsForLog heard) logs
 for_all script heard members ring logs m r n s e =
     subst (λ (l : List (Log Leaves)). All (IsForLog heard) l) (sym e) (for_from script heard (m ∙ n) (r ∙ s) (replicas_of script))
-
-pub own_sound : (heard : Admitted) (members : Roster) (ring : Ring) → heard.members ≡ members → heard.ring ≡ ring
-    → IsSound members ring heard.message → IsSound heard.members heard.ring heard.message
-own_sound heard members ring m r s =
-    subst (λ (x : Roster). IsSound x heard.ring heard.message) (sym m) (subst (λ (x : Ring). IsSound members x heard.message) (sym r) s)
 
 -- ---- one hearing
 
@@ -85,6 +81,14 @@ stands was now origin heard told n same acted opened own sound m s =
     }
 
 -- ---- at a place
+
+take_front : {X : Type 0} (xs ys : List X) → take (length xs) (xs ++ ys) ≡ xs
+take_front [] ys = refl
+take_front (x ∷ xs) ys = ap (λ l. x ∷ l) (take_front xs ys)
+
+-- what a `Vec` is once the call is over that had it as a slice
+pub put_back : {X : Type 0} (n : ℕ) (xs ys : List X) → n ≡ length xs → take n (xs ++ ys) ≡ xs
+put_back n xs ys e = ap (λ k. take k (xs ++ ys)) e ∙ take_front xs ys
 
 stand_at : (makers : List Maker) (logs : List (Log Leaves)) (place : ℕ) (d now : Log Leaves)
     → ((m : Maker) → IsStanding m (get_or logs place d) → IsStanding m now) → AreStanding makers logs → AreStanding makers (set logs place now)
