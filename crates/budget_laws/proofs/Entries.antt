@@ -2,8 +2,8 @@
 -- item to each.
 use Rattle.std.proofs.Common.{◌≡◌, ℕ, zero, suc, ◌+◌, ◌*◌, ◌-◌, ◌<◌, ◌≤◌, Bool, true, false, cond, ◌&&◌, nat_le, List, [], ◌∷◌, ◌++◌, length, map, inl, inr, refl, sym, ap, subst, ◌∙◌, append_assoc, append-nil, zero-add, arith, sum_by}
 use Rattle.std.specs.Prelude.{IsTrue, slice_index}
-use Rattle.std.specs.List.{range_with_len}
-use Rattle.std.proofs.Math.Nat.{mul_comm, mul-add, suc-mul, mul-le-mul_left}
+use Rattle.std.specs.List.{count_by, range_with_len}
+use Rattle.std.proofs.Math.Nat.{mul_comm, mul-add, suc-mul}
 use Rattle.std.proofs.lemmas.List.{length-append}
 use Rattle.std.proofs.lemmas.List.FromFn.{length-map-range_with_len}
 use Rattle.std.proofs.lemmas.List.Sums.{sum_by-append, sum_by-cons}
@@ -33,11 +33,8 @@ use Rattle.script_keys.specs.Keys.{members_of, replicas_from, replicas_of}
 use Rattle.script_keys.specs.Requests.{request_of, pending_of, receivers_of, copies_to, copies_from}
 use Rattle.run_worlds.specs.Scripts.{roster_of, maker_of, script_rules}
 use Rattle.run_worlds.specs.Endings.{IsRunOf}
-use Rattle.run_worlds.proofs.RunLogs.{logs_of}
 use Rattle.run_worlds.proofs.ScriptLimits.{within_limits}
 use Rattle.audit_laws.proofs.Members.{AreDistinct, apart_if, replicas_are_distinct, takes_part}
-use Rattle.audit_laws.proofs.Traces.{trace_is}
-use Rattle.run_laws.proofs.Unforged.{each_at}
 use Rattle.plain_laws.specs.Plain.{journal_by}
 use Rattle.plain_laws.proofs.Members.{journal_heedful}
 use Rattle.budget_laws.specs.Opened.{slots_opened, number_moved, is_sending, number_sent, EntriesLaw}
@@ -196,22 +193,39 @@ sum_few : {X : Type 0} (f : X → ℕ) (c : ℕ) (xs : List X) → ((x : X) → 
 sum_few f c [] h = omega arith
 sum_few f c (x ∷ xs) h = omega (arith, sum_by-cons f x xs, h x (inl refl), sum_few f c xs (λ y i. h y (inr i)), suc-mul (length xs) c)
 
--- each trace has the journal of its replica
-own_journal : (script : Script) (ids : List ReplicaId) (traces : List Trace) → AreDistinct ids → AreEach Kept (map (maker_of script) ids) traces
-    → (trace : Trace) → In trace traces → In trace.id ids × (journal_by trace.id traces ≡ trace.journal)
-own_journal script [] [] distinct kept trace i = absurd i
-own_journal script [] (t ∷ traces) distinct kept trace i = absurd kept
-own_journal script (j ∷ ids) [] distinct kept trace i = absurd kept
-own_journal script (j ∷ ids) (t ∷ traces) distinct kept trace (inl e) =
-    let named : t.id ≡ j = kept.0.named in
-    subst (λ (u : Trace). In u.id (j ∷ ids) × (journal_by u.id (t ∷ traces) ≡ u.journal)) e
-    (inl (sym named), ap (λ b. cond b t.journal (journal_by t.id traces)) (same_self t.id))
-own_journal script (j ∷ ids) (t ∷ traces) distinct kept trace (inr i) =
-    let named : t.id ≡ j = kept.0.named in
-    let later = own_journal script ids traces distinct.1 kept.1 trace i in
-    let apart : is_same trace.id t.id ≡ false =
-    subst (λ k. is_same trace.id k ≡ false) (sym named) (other_turned j trace.id (distinct.0 trace.id later.0)) in
-    (inr later.0, ap (λ b. cond b t.journal (journal_by trace.id traces)) apart ∙ later.1)
+-- a trace is that of a replica: its journal, and what holds of it
+record IsOf (P : Maker → Trace → Type 0) (script : Script) (ids : List ReplicaId) (traces : List Trace) (trace : Trace) : Type 0 where
+  listed : In trace.id ids
+  kept : Kept (maker_of script trace.id) trace
+  fine : P (maker_of script trace.id) trace
+  journal_is : journal_by trace.id traces ≡ trace.journal
+
+each_is : (P : Maker → Trace → Type 0) (script : Script) (ids : List ReplicaId) (traces : List Trace) → AreDistinct ids
+    → AreEach Kept (map (maker_of script) ids) traces → AreEach P (map (maker_of script) ids) traces → (trace : Trace) → In trace traces
+    → IsOf P script ids traces trace
+each_is P script [] [] distinct kept each trace i = absurd i
+each_is P script [] (t ∷ traces) distinct kept each trace i = absurd kept
+each_is P script (j ∷ ids) [] distinct kept each trace i = absurd kept
+each_is P script (j ∷ ids) (t ∷ traces) distinct kept each trace (inl e) =
+    let named : j ≡ t.id = sym kept.0.named in
+    let first : IsOf P script (j ∷ ids) (t ∷ traces) t = record {
+      listed = inl named;
+      kept = subst (λ k. Kept (maker_of script k) t) named kept.0;
+      fine = subst (λ k. P (maker_of script k) t) named each.0;
+      journal_is = ap (λ b. cond b t.journal (journal_by t.id traces)) (same_self t.id);
+    } in
+    subst (IsOf P script (j ∷ ids) (t ∷ traces)) e first
+each_is P script (j ∷ ids) (t ∷ traces) distinct kept each trace (inr i) =
+    let named : j ≡ t.id = sym kept.0.named in
+    let later = each_is P script ids traces distinct.1 kept.1 each.1 trace i in
+    let other : is_same trace.id t.id ≡ false =
+    subst (λ k. is_same trace.id k ≡ false) named (other_turned j trace.id (distinct.0 trace.id later.listed)) in
+    record {
+      listed = inr later.listed;
+      kept = later.kept;
+      fine = later.fine;
+      journal_is = ap (λ b. cond b t.journal (journal_by trace.id traces)) other ∙ later.journal_is;
+    }
 
 as_many : (script : Script) (ids : List ReplicaId) (traces : List Trace) → AreEach Kept (map (maker_of script) ids) traces → length traces ≡ length ids
 as_many script [] [] kept = refl
@@ -241,51 +255,46 @@ module _ (t : Transcript) (run : IsRunOf t.script t) (one : length t.script.size
   abbrev requests : ℕ
   requests = length t.script.requests
 
-  -- a trace is that of a member
-  record IsOfMember (trace : Trace) : Type 0 where
-    index : ℕ
-    within : index < size_of (roster_of t.script) 1
-    journal_is : journal_by (member index) t.traces ≡ trace.journal
+  abbrev IsHere : Trace → Type 0
+  IsHere trace = IsOf (IsDelivered (script_rules t.script) t.traces) t.script (replicas_of t.script) t.traces trace
 
-  of_member : (trace : Trace) → In trace t.traces → IsOfMember trace
-  of_member trace there =
-      let own = own_journal t.script (replicas_of t.script) t.traces (replicas_are_distinct t.script) run.lawful.kept trace there in
-      let part = takes_part t.script trace.id own.0 in
+  here : (trace : Trace) → In trace t.traces → IsHere trace
+  here trace there =
+      each_is (IsDelivered (script_rules t.script) t.traces) t.script (replicas_of t.script) t.traces (replicas_are_distinct t.script) run.lawful.kept
+      run.lawful.delivered trace there
+
+  -- what holds of the journal of each member holds of the trace's
+  of_member : (count : List Entry → ℕ) (most : ℕ) → ((k : ℕ) → k < size_of (roster_of t.script) 1 → count (journal_by (member k) t.traces) ≤ most)
+      → (trace : Trace) → In trace t.traces → count trace.journal ≤ most
+  of_member count most each trace there =
+      let own = here trace there in
+      let part = takes_part t.script trace.id own.listed in
       let cluster = and_left (is_cluster (roster_of t.script) trace.id.cluster) _ part in
       let from = at_most 1 trace.id.cluster (and_left (nat_le 1 trace.id.cluster) _ cluster) in
       let upto = at_most trace.id.cluster (length t.script.sizes) (and_right (nat_le 1 trace.id.cluster) _ cluster) in
       let only : trace.id.cluster ≡ 1 = omega (arith, from, upto, one) in
       let named : member trace.id.index ≡ trace.id = ap (λ c. let i : ReplicaId = record { cluster = c; index = trace.id.index } in i) (sym only) in
-      record {
-        index = trace.id.index;
-        within = subst (λ c. trace.id.index < size_of (roster_of t.script) c) only
-            (below trace.id.index (size_of (roster_of t.script) trace.id.cluster) (and_right (is_cluster (roster_of t.script) trace.id.cluster) _ part));
-        journal_is = ap (λ i. journal_by i t.traces) named ∙ own.1;
-      }
+      let within = subst (λ c. trace.id.index < size_of (roster_of t.script) c) only
+      (below trace.id.index (size_of (roster_of t.script) trace.id.cluster) (and_right (is_cluster (roster_of t.script) trace.id.cluster) _ part)) in
+      subst (λ j. count j ≤ most) (ap (λ i. journal_by i t.traces) named ∙ own.journal_is) (each trace.id.index within)
 
   moved_few : (trace : Trace) → In trace t.traces → number_moved trace.journal ≤ 6 * opened
-  moved_few trace there =
-      let o = of_member trace there in
-      omega (arith, moves_few t one run o.index o.within, ap number_moved o.journal_is)
+  moved_few trace there = of_member number_moved (6 * opened) (moves_few t one run) trace there
 
   sent_few : (trace : Trace) → In trace t.traces → number_sent trace.journal ≤ 5 * opened
-  sent_few trace there =
-      let o = of_member trace there in
-      omega (arith, sendings_few t one run o.index o.within, ap number_sent o.journal_is)
+  sent_few trace there = of_member number_sent (5 * opened) (sendings_few t one run) trace there
 
   -- each put five times as many parcels to a replica at most as the primary opened slots
   put_few : (to : ReplicaId) (trace : Trace) → In trace t.traces → parcels_counted always to trace.id trace.parcels ≤ 5 * opened
   put_few to trace there =
-      let of = trace_is t (logs_of t run) trace there in
-      let few = parcels_few (maker_of t.script trace.id) (within_limits t.script run.limits) (takes_part t.script trace.id of.listed) to trace.journal
-      of.kept.replays of.kept.sound in
-      omega (arith, few, ap (parcels_counted always to trace.id) of.kept.parcels, sent_few trace there)
+      let own = here trace there in
+      let few = parcels_few (maker_of t.script trace.id) (within_limits t.script run.limits) (takes_part t.script trace.id own.listed) to trace.journal
+      own.kept.replays own.kept.sound in
+      omega (arith, few, ap (parcels_counted always to trace.id) own.kept.parcels, sent_few trace there)
 
   heard_few : (trace : Trace) → In trace t.traces → heard_counted always trace.journal ≤ requests + length t.traces * (5 * opened)
   heard_few trace there =
-      let delivered = each_at (IsDelivered (script_rules t.script) t.traces) t.script (replicas_of t.script) t.traces run.lawful.kept run.lawful.delivered
-      trace there always in
-      omega (arith, delivered, requests_few t.script trace.id 0 t.script.requests,
+      omega (arith, (here trace there).fine always, requests_few t.script trace.id 0 t.script.requests,
       sum_few (λ (x : Trace). parcels_counted always trace.id x.id x.parcels) (5 * opened) t.traces (put_few trace.id))
 
   entries_few : (trace : Trace) → In trace t.traces → length trace.journal ≤ 11 * opened + (requests + length t.traces * (5 * opened))
