@@ -4,7 +4,6 @@ use Rattle.std.proofs.Common.{◌≡◌, ℕ, zero, suc, ◌+◌, ◌*◌, ◌-�
 use Rattle.std.specs.Prelude.{IsTrue, slice_index}
 use Rattle.std.specs.List.{count_by, range_with_len}
 use Rattle.std.proofs.Math.Nat.{mul_comm, mul-add, suc-mul}
-use Rattle.std.proofs.lemmas.List.{length-append}
 use Rattle.std.proofs.lemmas.List.FromFn.{length-map-range_with_len}
 use Rattle.std.proofs.lemmas.List.Sums.{sum_by-append, sum_by-cons}
 use Rattle.fab_base.specs.Limits.{IsWithinLimits}
@@ -20,9 +19,8 @@ use Rattle.heed_laws.specs.Heeding.{IsOutgoing}
 use Rattle.heed_laws.specs.Resting.{member}
 use Rattle.run_words.specs.Keyed.{is_same, of}
 use Rattle.run_words.specs.Journal.{Maker, state, walk, put, added, parcels_of, signed_of, item_by, next_item, IsNext, IsMadeFrom, IsMade as IsReplayed, AreSound}
-use Rattle.run_words.specs.Lawful.{AreEach, Kept, Test, IsDelivered, pending_counted, heard_once, heard_counted, parcels_counted, put_counted, used_counted}
+use Rattle.run_words.specs.Lawful.{AreEach, Kept, Test, IsDelivered, pending_counted, heard_once, heard_counted, parcels_counted}
 use Rattle.run_words.specs.declared.logs.Entry.{Entry}
-use Rattle.run_words.specs.declared.logs.Origin.{Origin}
 use Rattle.run_words.specs.declared.logs.Parcel.{Parcel}
 use Rattle.run_words.specs.declared.logs.Pending.{Pending}
 use Rattle.run_words.specs.declared.logs.Trace.{Trace}
