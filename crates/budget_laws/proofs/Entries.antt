@@ -64,6 +64,7 @@ times to ids = sum_by (λ i. is_to to i) ids
 abbrev member_in : ℕ → ℕ → ReplicaId
 member_in cluster index = record { cluster = cluster; index = index }
 
+-- the test decides whether it counts
 is_to_by : (to i : ReplicaId) (b : Bool) → is_same to i ≡ b → is_to to i ≡ cond (b && true) 1 0
 is_to_by to i b e = ap (λ x. cond (x && true) 1 0) e
 
@@ -119,6 +120,7 @@ module _ (m : Maker) (limits : IsWithinLimits m.roster) (known : IsTrue (is_repl
   abbrev counted : List Parcel → ℕ
   counted parcels = parcels_counted always to m.id parcels
 
+  -- an entry puts one parcel to it at most, and only where it is a sending
   added_few : (earlier : List Entry) (e : Entry) → IsReplayed m earlier → AreSound m earlier → IsNext m earlier e
       → counted (added m (walk m earlier) e) ≤ is_sending e
   unfolding added next_item
@@ -136,6 +138,7 @@ module _ (m : Maker) (limits : IsWithinLimits m.roster) (known : IsTrue (is_repl
   counted_both : (a b : List Parcel) → counted (a ++ b) ≡ counted a + counted b
   counted_both a b = sum_by-append (λ (q : Parcel). is_to to q.to) a b
 
+  -- along the journal
   few_from : (earlier rest : List Entry) → IsReplayed m earlier → AreSound m earlier → IsMadeFrom m earlier rest → AreSound m rest
       → counted (parcels_of m (earlier ++ rest)) ≤ counted (parcels_of m earlier) + number_sent rest
   few_from earlier [] made sound next heard = omega (arith, ap (λ j. counted (parcels_of m j)) (append-nil earlier))
@@ -157,6 +160,7 @@ module _ (m : Maker) (limits : IsWithinLimits m.roster) (known : IsTrue (is_repl
 
 -- ---- the copies of requests to a replica
 
+-- a request is on its way to a replica as often as that stands among the receivers
 copies_times : (to : ReplicaId) (c : Pending) (ids : List ReplicaId) → pending_counted always (of to (copies_to c ids)) ≡ times to ids
 copies_times to c [] = refl
 copies_times to c (i ∷ rest) =
@@ -167,6 +171,7 @@ copies_times to c (i ∷ rest) =
     go true = sum_by-cons (λ (x : Pending). cond (always x.origin x.load) 1 0) c (of to (copies_to c rest))
     go false = sym (zero-add (pending_counted always (of to (copies_to c rest))))
 
+-- copies of a request more
 one_more : (to : ReplicaId) (here later : List (ReplicaId × Pending)) (n : ℕ) → pending_counted always (of to here) ≤ 1
     → pending_counted always (of to later) ≤ n → pending_counted always (of to (here ++ later)) ≤ suc n
 one_more to here later n a b =
@@ -187,6 +192,7 @@ requests_few script to k (w ∷ wishes) =
 
 -- ---- the traces
 
+-- a sum of parts that have so much at most
 sum_few : {X : Type 0} (f : X → ℕ) (c : ℕ) (xs : List X) → ((x : X) → In x xs → f x ≤ c) → sum_by f xs ≤ length xs * c
 sum_few f c [] h = omega arith
 sum_few f c (x ∷ xs) h = omega (arith, sum_by-cons f x xs, h x (inl refl), sum_few f c xs (λ y i. h y (inr i)), suc-mul (length xs) c)
@@ -198,6 +204,7 @@ record IsOf (P : Maker → Trace → Type 0) (script : Script) (ids : List Repli
   fine : P (maker_of script trace.id) trace
   journal_is : journal_by trace.id traces ≡ trace.journal
 
+-- each trace is
 each_is : (P : Maker → Trace → Type 0) (script : Script) (ids : List ReplicaId) (traces : List Trace) → AreDistinct ids
     → AreEach Kept (map (maker_of script) ids) traces → AreEach P (map (maker_of script) ids) traces → (trace : Trace) → In trace traces
     → IsOf P script ids traces trace
@@ -225,6 +232,7 @@ each_is P script (j ∷ ids) (t ∷ traces) distinct kept each trace (inr i) =
       journal_is = ap (λ b. cond b t.journal (journal_by trace.id traces)) other ∙ later.journal_is;
     }
 
+-- there is one for each replica
 as_many : (script : Script) (ids : List ReplicaId) (traces : List Trace) → AreEach Kept (map (maker_of script) ids) traces → length traces ≡ length ids
 as_many script [] [] kept = refl
 as_many script [] (t ∷ traces) kept = absurd kept
@@ -276,6 +284,7 @@ module _ (t : Transcript) (run : IsRunOf t.script t) (one : length t.script.size
       (below trace.id.index (size_of (roster_of t.script) trace.id.cluster) (and_right (is_cluster (roster_of t.script) trace.id.cluster) _ part)) in
       subst (λ j. count j ≤ most) (ap (λ i. journal_by i t.traces) named ∙ own.journal_is) (each trace.id.index within)
 
+  -- so each made six moves and five sendings at most for each of these slots
   moved_few : (trace : Trace) → In trace t.traces → number_moved trace.journal ≤ 6 * opened
   moved_few trace there = of_member number_moved (6 * opened) (moves_few t one run) trace there
 
@@ -290,6 +299,7 @@ module _ (t : Transcript) (run : IsRunOf t.script t) (one : length t.script.size
       own.kept.replays own.kept.sound in
       omega (arith, few, ap (parcels_counted always to trace.id) own.kept.parcels, sent_few trace there)
 
+  -- and heard no more than was put to it
   heard_few : (trace : Trace) → In trace t.traces → heard_counted always trace.journal ≤ requests + length t.traces * (5 * opened)
   heard_few trace there =
       omega (arith, (here trace there).fine always, requests_few t.script trace.id 0 t.script.requests,
