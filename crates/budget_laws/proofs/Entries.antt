@@ -74,8 +74,12 @@ none_later to cluster a zero l = refl
 none_later to cluster a (suc n) l =
     let other : (to ≡ member_in cluster a) → ⊥ = λ e. (let same : to.index ≡ a = ap (λ (i : ReplicaId). i.index) e in omega (arith, same, l)) in
     let here : is_to to (member_in cluster a) ≡ 0 = is_to_by to (member_in cluster a) false (apart_if to (member_in cluster a) other) in
-    omega (arith, here, none_later to cluster (a + 1) n (omega (arith, l)),
-    sum_by-cons (λ i. is_to to i) (member_in cluster a) (map (member_in cluster) (range_with_len (a + 1) n)))
+    omega (
+      arith,
+      here,
+      none_later to cluster (a + 1) n (omega (arith, l)),
+      sum_by-cons (λ i. is_to to i) (member_in cluster a) (map (member_in cluster) (range_with_len (a + 1) n)),
+    )
 
 -- a cluster has each member once
 once : (to : ReplicaId) (cluster a n : ℕ) → times to (map (member_in cluster) (range_with_len a n)) ≤ 1
@@ -302,8 +306,12 @@ module _ (t : Transcript) (run : IsRunOf t.script t) (one : length t.script.size
   -- and heard no more than was put to it
   heard_few : (trace : Trace) → In trace t.traces → heard_counted always trace.journal ≤ requests + length t.traces * (5 * opened)
   heard_few trace there =
-      omega (arith, (here trace there).fine always, requests_few t.script trace.id 0 t.script.requests,
-      sum_few (λ (x : Trace). parcels_counted always trace.id x.id x.parcels) (5 * opened) t.traces (put_few trace.id))
+      omega (
+        arith,
+        (here trace there).fine always,
+        requests_few t.script trace.id 0 t.script.requests,
+        sum_few (λ (x : Trace). parcels_counted always trace.id x.id x.parcels) (5 * opened) t.traces (put_few trace.id),
+      )
 
   entries_few : (trace : Trace) → In trace t.traces → length trace.journal ≤ 11 * opened + (requests + length t.traces * (5 * opened))
   entries_few trace there = omega (arith, parts trace.journal, moved_few trace there, sent_few trace there, heard_few trace there)
