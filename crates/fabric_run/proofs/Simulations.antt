@@ -106,7 +106,7 @@ cause_by script t End.Done few is schedule run h = tt
 cause_by script t (End.Stalled client stamp) few is schedule run h =
     stalled t client stamp (subst (λ s. length s.sizes ≤ 1) (sym is) few) (own_run script t run) h
 cause_by script t (End.Spent entries) few is schedule run h =
-    subst (λ s. s.turns ≤ entries) (sym is) (cut_off script t schedule.0 entries run.limits schedule.1 h)
+    subst (λ (s : Script). entries ≡ s.turns) (sym is) (cut_off script t schedule.0 entries run.limits schedule.1 h)
 cause_by script t (End.Broken (Evidence.Clash digest a b)) few is schedule run h =
     witness t (logs_of t (own_run script t run)) (Evidence.Clash digest a b) h
 cause_by script t (End.Broken (Evidence.Forged i place signer)) few is schedule run h = no_signer_named script t run i place signer h

@@ -1,5 +1,5 @@
 -- What `sim` does (ours): it runs a script's replicas, sees how the run ended, and writes the report of the run.
-use Rattle.std.specs.Prelude.{◌≡◌, ℕ, ◌≤◌, List}
+use Rattle.std.specs.Prelude.{◌≡◌, ℕ, List}
 use Rattle.fab_io.specs.Devices.{Supply}
 use Rattle.fault_script.specs.declared.scripts.Script.{Script}
 use Rattle.world_laws.specs.Safety.{IsSafe}
@@ -68,11 +68,11 @@ IsPrintedAt kept (BadScript bad) = Unit {0}
 IsPrintedAt kept NoMemory = Unit {0}
 IsPrintedAt kept exit = (end : End) → report_text kept end ≡ world_text kept end
 
--- why a run didn't end done: some replica used up its key; the run has as many entries as its script allows; two different batches have one
+-- why a run didn't end done: some replica used up its key; the run has just as many entries as its script allows; two different batches have one
 -- digest. Nothing in it is forged
 abbrev pub HasCauseAt : Transcript → Exit → Type 0
 HasCauseAt kept (Stalled client stamp) = HasSpent kept
-HasCauseAt kept (Spent entries) = kept.script.turns ≤ entries
+HasCauseAt kept (Spent entries) = entries ≡ kept.script.turns
 HasCauseAt kept (Broken (Evidence.Clash digest first second)) = IsClash kept digest first second
 HasCauseAt kept (Broken (Evidence.Forged i place signer)) = ⊥
 HasCauseAt kept exit = Unit {0}

@@ -89,8 +89,8 @@ fn run<S: Source, K: Sink>(
 /// twice or without its client, and what enough replicas told of a block is so (`safe`). The ledgers that the report prints are the ones of
 /// which this is said (`printed`).
 ///
-/// A run ends done, or has a cause (`cause`): at `Stalled` some replica has used up its key, at `Spent` the run has as many entries as its script
-/// allows, and at `Broken` two different batches of the run share a digest. No run is broken by a forged statement.
+/// A run ends done, or has a cause (`cause`): at `Stalled` some replica has used up its key, at `Spent` the run has just as many entries as its
+/// script allows, and at `Broken` two different batches of the run share a digest. No run is broken by a forged statement.
 pub fn simulate_script<S: Source, K: Sink>(
     alloc: Global,
     script: &mut S,
