@@ -11,6 +11,7 @@ use Rattle.run_worlds.specs.Endings.{IsRunOf, IsEnd}
 use Rattle.script_sim.specs.Schedules.{IsScheduleOf}
 use Rattle.audit_laws.specs.Witnesses.{IsClash}
 use Rattle.plain_laws.specs.Plain.{HasSpent}
+use Rattle.budget_laws.specs.Budgets.{FitsScript}
 use Rattle.ledger_report.specs.Report.{report_text}
 use Rattle.ledger_report.specs.Printed.{world_text}
 use Rattle.fabric_run.specs.declared.exits.Exit.{Exit}
@@ -69,10 +70,10 @@ IsPrintedAt kept NoMemory = Unit {0}
 IsPrintedAt kept exit = (end : End) → report_text kept end ≡ world_text kept end
 
 -- why a run didn't end done: some replica used up its key; the run has just as many entries as its script allows; two different batches have one
--- digest. Nothing in it is forged
+-- digest. The first two never come where keys and entries are enough for the script. Nothing in a run is forged
 abbrev pub HasCauseAt : Transcript → Exit → Type 0
-HasCauseAt kept (Stalled client stamp) = HasSpent kept
-HasCauseAt kept (Spent entries) = entries ≡ kept.script.turns
+HasCauseAt kept (Stalled client stamp) = HasSpent kept × ¬ FitsScript kept.script
+HasCauseAt kept (Spent entries) = (entries ≡ kept.script.turns) × ¬ FitsScript kept.script
 HasCauseAt kept (Broken (Evidence.Clash digest first second)) = IsClash kept digest first second
 HasCauseAt kept (Broken (Evidence.Forged i place signer)) = ⊥
 HasCauseAt kept exit = Unit {0}

@@ -90,7 +90,8 @@ fn run<S: Source, K: Sink>(
 /// which this is said (`printed`).
 ///
 /// A run ends done, or has a cause (`cause`): at `Stalled` some replica has used up its key, at `Spent` the run has just as many entries as its
-/// script allows, and at `Broken` two different batches of the run share a digest. No run is broken by a forged statement.
+/// script allows, and at `Broken` two different batches of the run share a digest. No run is broken by a forged statement. Where the keys have leaves and
+/// the script allows entries enough (`FitsScript` of `budget_laws`), it is neither stalled nor spent.
 pub fn simulate_script<S: Source, K: Sink>(
     alloc: Global,
     script: &mut S,

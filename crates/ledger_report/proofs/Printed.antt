@@ -1,12 +1,12 @@
 -- The ledgers that a report prints are those of the replicas in the world, and the longest is the common one.
 use Rattle.std.proofs.Common.{◌≡◌, ℕ, List, [], ◌∷◌, ◌++◌, length, map, inl, inr, refl, sym, ap, ◌∙◌}
 use Rattle.std.specs.List.{flat_map}
-use Rattle.std.proofs.lemmas.List.Elements.{flat_map-cons}
+use Rattle.std.proofs.lemmas.List.Concat.{flat_map-cons}
 use Rattle.fab_base.specs.declared.ids.ReplicaId.{ReplicaId}
 use Rattle.fab_rules.specs.Diary as diaries
 use Rattle.fab_rules.specs.Diary.{ledger}
 use Rattle.fab_rules.specs.Lists.{In}
-use Rattle.fab_rules.specs.Ledger.{run, start_of, state_after_blocks}
+use Rattle.fab_rules.specs.Ledger.{RunBlock, run, start_of, state_after_blocks}
 use Rattle.fab_rules.specs.declared.blocks.Block.{Block}
 use Rattle.world_laws.specs.World.{common_ledger, longest}
 use Rattle.world_laws.specs.World as worlds
@@ -47,14 +47,14 @@ module _ (script : Script) where
       (λ i. ledger_line (length script.sizes) (named i) (ledger (sym first i)) ++ later i) ∙ sym (flat_map-cons (line told) j ids)
 
 pub printed : PrintedLaw
-printed t end run =
+printed t end logs =
     let w = world_of t in
-    let lines = lines_are t.script w.diary (replicas_of t.script) t.traces (replicas_are_distinct t.script) run.kept (λ j h. refl)
+    let lines = lines_are t.script w.diary (replicas_of t.script) t.traces (replicas_are_distinct t.script) logs.kept (λ j h. refl)
     ∙ ap (flat_map (line t.script w.diary)) (sym (same_replicas t.script)) in
-    let whole : longest_ledger t ≡ common_ledger w = sym (common t run) in
+    let whole : longest_ledger t ≡ common_ledger w = sym (common t logs) in
     λ i. head_line t.script.sizes ++ lines i ++ flat_map (block_lines t.traces) (run_of (whole i)) ++ table_of (whole i) ++ end_line end
   where
-    run_of : List Block → List _
+    run_of : List Block → List RunBlock
     run_of blocks = run (world_of t).roster blocks
 
     table_of : List Block → List ℕ
