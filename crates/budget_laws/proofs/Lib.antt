@@ -1,2 +1,4 @@
 pub mod Moves
 pub mod Voicing
+pub mod Sums
+pub mod Putting
