@@ -3,3 +3,9 @@ pub mod Voicing
 pub mod Prefixes
 pub mod Sums
 pub mod Putting
+pub mod Moments
+pub mod Journals
+pub mod Asked
+pub mod Stillness
+pub mod Rounds
+pub mod Budgets
