@@ -141,6 +141,10 @@ leaves_are script i limits = elim (height_is script limits) [ inl e ↦ by scrip
 
 -- ---- along the run
 
+none_yet : (m : Maker) → batches_by m [] ≡ []
+unfolding diary
+none_yet m = ap (λ s. proposals_said (full_of m.id s [])) (fresh_is m)
+
 -- of the batches that were proposed
 abbrev pub AreFilled : Script → List (List Request) → Type 0
 AreFilled script batches = Fills (length batches) script.batch (length (flat_map (λ b. b) batches)) (length script.requests)
@@ -322,11 +326,7 @@ module _ (script : Script) (limits : keeps_limits script ≡ true) (one : length
       ]
 
   pub filled_at : (n : ℕ) → NoClash (world_of (at_step script n)) → AreFilled script (proposals_said (full_at (at_step script n) 0))
-  filled_at zero none = subst (AreFilled script) (sym (batches_are 0 ∙ first_batches)) (inl (omega (arith, zero-mul script.batch)))
-    where
-      first_batches : batches_by (maker_of script (member 0)) [] ≡ []
-      unfolding diary
-      first_batches = ap (λ s. proposals_said (full_of (member 0) s [])) (fresh_is primary)
+  filled_at zero none = subst (AreFilled script) (sym (batches_are 0 ∙ none_yet primary)) (inl (omega (arith, zero-mul script.batch)))
   filled_at (suc n) later =
       let next_one : n + 1 ≡ suc n = omega arith in
       let none = no_clash_before script n 1 limits (subst (λ k. NoClash (world_of (at_step script k))) (sym next_one) later) in
