@@ -1,5 +1,6 @@
 pub mod Moves
 pub mod Voicing
+pub mod Entries
 pub mod Prefixes
 pub mod Sums
 pub mod Putting
