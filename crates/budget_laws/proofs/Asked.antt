@@ -172,7 +172,7 @@ module _ (t : Transcript) (run : IsRunOf t.script t) (one : length t.script.size
   abbrev l : Local
   l = (state_at t 0).local
 
-  member_known : is_replica (roster_of t.script) (member 0) ≡ true
+  pub member_known : is_replica (roster_of t.script) (member 0) ≡ true
   member_known =
       and_both (is_cluster (roster_of t.script) 1) _ (and_both (nat_le 1 1) _ refl (is_at_most 1 (length t.script.sizes) (omega (arith, one))))
       (is_below 0 (size_of (roster_of t.script) 1) some)
@@ -240,17 +240,18 @@ module _ (t : Transcript) (run : IsRunOf t.script t) (one : length t.script.size
       let a = resting.asked t run still unspent clean one some w.wish w.inside u (omega (arith, from)) (omega (arith, w.stamp_is)) in
       let x : Request = a.request in
       let full_heard = still_heard ((world_of t).diary (member 0)) (statements_in (member 0) (state_at t 0).outbox) (Message.Request x) a.heard in
-      let client_is : x.client.number ≡ c = ap (λ (k : ClientId). k.number) a.client_is ∙ w.client_is in
-      by x client_is a.stamp_is (((voiced t run one).heeds 0 some).are.local.heeded (Message.Request x) full_heard)
+      by x w.wish.client a.client_is w.client_is a.stamp_is (((voiced t run one).heeds 0 some).are.local.heeded (Message.Request x) full_heard)
     where
-      by : (x : Request) → x.client.number ≡ c → x.stamp ≡ u
+      by : (x : Request) (k : ClientId) → x.client ≡ k → k.number ≡ c → x.stamp ≡ u
           → IsHeeded (roster_of t.script) (member 0) here.slots here.kept here.waiting here.last here.checkpoints (Message.Request x) ⊎ In (Message.Request x) []
           → IsWaitingFor (state_at t 0).local.waiting c u
-      by x client_is stamp_is (inr none) = absurd none
-      by x client_is stamp_is (inl good) = elim (good (ap (slice_index t.script.homes) client_is ∙ home_is t run one some c lt)) [
-        | inl old ↦ absurd (omega (arith, old, stamp_is, from, ap (slice_index here.last) client_is))
-        | inr w ↦ record { request = w.request; inside = w.inside; client_is = w.client_is ∙ client_is; stamp_is = w.stamp_is ∙ stamp_is }
-      ]
+      by x k is number_is stamp_is (inr none) = absurd none
+      by x k is number_is stamp_is (inl good) =
+          let client_is : x.client.number ≡ c = ap (λ (i : ClientId). i.number) is ∙ number_is in
+          elim (good (ap (slice_index t.script.homes) client_is ∙ home_is t run one some c lt)) [
+            | inl old ↦ absurd (omega (arith, old, stamp_is, from, ap (slice_index here.last) client_is))
+            | inr w ↦ record { request = w.request; inside = w.inside; client_is = w.client_is ∙ client_is; stamp_is = w.stamp_is ∙ stamp_is }
+          ]
 
   -- so where more is asked than is in work or took effect, the last number of it is eligible
   pub last_eligible : (c : ℕ) → c < length t.script.homes → expected (state_at t 0).local c ≤ count_of c t.script.requests

@@ -104,11 +104,11 @@ module _ (entries : EntriesLaw) (thrifty : (script : Script) (n : ℕ) → keeps
   -- a request that is missing has a cluster for its home
   missing_one : (t : Transcript) (end : End) → length t.script.sizes ≤ 1 → IsRunOf t.script t → (end ≡ End.Done → ⊥) → (w : Option Wish) → first_missing t ≡ w
       → IsEndBy t end w → length t.script.sizes ≡ 1
-  missing_one t end few run other (Some w) e h = one_cluster t few run w (found_in (λ wish. not (is_effective t wish)) t.script.requests w e)
-  missing_one t End.Done few run other None e h = absurd (other refl)
-  missing_one t (End.Stalled client stamp) few run other None e h = absurd h
-  missing_one t (End.Spent count) few run other None e h = absurd h
-  missing_one t (End.Broken evidence) few run other None e h = absurd h
+  missing_one t end few lawful other (Some w) e h = one_cluster t few lawful w (found_in (λ wish. not (is_effective t wish)) t.script.requests w e)
+  missing_one t End.Done few lawful other None e h = absurd (other refl)
+  missing_one t (End.Stalled client stamp) few lawful other None e h = absurd h
+  missing_one t (End.Spent count) few lawful other None e h = absurd h
+  missing_one t (End.Broken evidence) few lawful other None e h = absurd h
 
   by_end : (script : Script) (n : ℕ) (spent : Bool) (end : End) → length script.sizes ≤ 1 → keeps_limits script ≡ true → FitsScript script
       → IsSchedule (script_rules script) (at_step script n) spent → IsEnd (at_step script n) end → (end ≡ End.Done) ⊎ IsClash end
