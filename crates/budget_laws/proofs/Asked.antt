@@ -1,13 +1,13 @@
 -- What a primary proposed was asked by the script, so it is no more than the script asks; and at a moment at which nothing is on its way, all
 -- that the script asks of a client and that wasn't proposed is eligible.
-use Rattle.std.proofs.Common.{◌≡◌, ℕ, suc, ◌+◌, ◌-◌, ◌<◌, ◌≤◌, Bool, true, false, cond, ◌&&◌, nat_le, nat_eq, List, [], ◌∷◌, ◌++◌, map, filter, length, append_assoc, Option, Some, None, ◌⊎◌, inl, inr, refl, sym, ap, subst, ◌∙◌, arith}
+use Rattle.std.proofs.Common.{◌≡◌, ℕ, ◌+◌, ◌-◌, ◌<◌, ◌≤◌, Bool, true, false, cond, ◌&&◌, nat_le, nat_eq, List, [], ◌∷◌, ◌++◌, filter, length, append_assoc, None, ◌⊎◌, inl, inr, refl, sym, ap, subst, ◌∙◌, arith}
 use Rattle.std.specs.Prelude.{slice_index}
 use Rattle.std.specs.List.{list_all, range_with_len}
 use Rattle.std.specs.Option.{is_some}
 use Rattle.std.proofs.lemmas.Bool.{cases_lt}
 use Rattle.std.proofs.lemmas.List.{append-nil}
 use Rattle.fab_base.specs.Limits.{Roster}
-use Rattle.fab_base.specs.Roster.{size_of, home_of, is_replica, is_cluster}
+use Rattle.fab_base.specs.Roster.{size_of, is_replica, is_cluster}
 use Rattle.fab_base.specs.declared.ids.ClientId.{ClientId}
 use Rattle.fab_base.specs.declared.messages.Message.{Message}
 use Rattle.fab_base.specs.declared.messages.PrePrepare.{PrePrepare}
@@ -15,12 +15,12 @@ use Rattle.fab_base.specs.declared.requests.Request.{Request}
 use Rattle.fab_base.proofs.Tests.{and_left, and_right, and_both, is_below, is_at_most, same, are_same}
 use Rattle.fab_rules.specs.Diary.{Entry, Heard, Said, Did}
 use Rattle.fab_rules.specs.Lists.{In, first_of}
-use Rattle.fab_rules.proofs.Lists.{in_append_cases, in_append_left, in_append_right, in_filter, of_filter, in_map, of_map, of_flat_map, all_pass, of_range_with_len}
+use Rattle.fab_rules.proofs.Lists.{in_append_cases, in_filter, of_filter, in_map, of_map, of_flat_map, all_pass, of_range_with_len}
 use Rattle.fab_rules.proofs.Saying.{heard_before, still_heard}
 use Rattle.fab_machine.specs.State.{Local}
 use Rattle.fab_machine.specs.Items.{statements_in}
 use Rattle.fab_machine.specs.Requests.{waiting_of}
-use Rattle.fab_machine.specs.Proposing.{stamps_of, in_work, expected, is_eligible, eligible}
+use Rattle.fab_machine.specs.Proposing.{stamps_of, expected, is_eligible, eligible}
 use Rattle.fault_script.specs.declared.scripts.Script.{Script}
 use Rattle.fault_script.specs.declared.scripts.Wish.{Wish}
 use Rattle.fault_script.specs.Scripts.{are_sizes, are_homes, are_wishes, is_wish, count_of, stamps_run, keeps_limits}
@@ -28,7 +28,7 @@ use Rattle.fault_script.proofs.Stamps.{count_and_one}
 use Rattle.world_laws.specs.World.{IsCorrect, IsMade}
 use Rattle.heed_laws.specs.Fronts.{GoOn}
 use Rattle.heed_laws.specs.Heeding.{IsHeeded, IsWaitingFor, IsAskedFor}
-use Rattle.heed_laws.specs.Resting.{member, IsAsked}
+use Rattle.heed_laws.specs.Resting.{member}
 use Rattle.run_words.specs.Lawful.{AreEach}
 use Rattle.run_words.specs.declared.logs.Transcript.{Transcript}
 use Rattle.script_keys.specs.Requests.{asked}
@@ -46,7 +46,7 @@ use Rattle.plain_laws.proofs.Resting.{IsStill}
 use Rattle.plain_laws.proofs.Stamps.{HasWish, AllUpTo, one_more}
 use Rattle.budget_laws.specs.Opened.{state_at, full_at}
 use Rattle.budget_laws.specs.Proposals.{batch_in, proposals_said, requests_said, stamps_said, IsThrifty}
-use Rattle.budget_laws.proofs.Sums.{no_more, no_fewer, go_below, go_last}
+use Rattle.budget_laws.proofs.Sums.{no_more, no_fewer, go_last}
 use Rattle.budget_laws.proofs.Voicing.{voiced}
 
 -- ---- the stamps of a script

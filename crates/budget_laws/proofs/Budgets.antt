@@ -1,10 +1,9 @@
 -- The one run of a script whose keys and turns are enough ends done.
-use Rattle.std.proofs.Common.{◌≡◌, ℕ, zero, suc, ◌+◌, ◌*◌, ◌^◌, ◌<◌, ◌≤◌, Bool, true, false, cond, not, ◌&&◌, nat_le, List, [], ◌∷◌, length, sum, Option, Some, None, ◌⊎◌, inl, inr, refl, sym, ap, subst, ◌∙◌, arith}
+use Rattle.std.proofs.Common.{◌≡◌, ℕ, ◌+◌, ◌*◌, ◌<◌, ◌≤◌, Bool, true, false, cond, not, nat_le, List, [], ◌∷◌, length, sum, Option, Some, None, ◌⊎◌, inl, inr, refl, ap, subst, ◌∙◌, arith}
 use Rattle.std.specs.Prelude.{slice_index}
 use Rattle.std.specs.List.{find}
 use Rattle.std.proofs.Math.Nat.{mul_assoc, mul-le-mul_left, mul-le-mul_right, one-mul, mul-one}
-use Rattle.fab_base.specs.Roster.{size_of, is_cluster}
-use Rattle.fab_base.specs.declared.ids.Who.{Who}
+use Rattle.fab_base.specs.Roster.{size_of}
 use Rattle.fab_base.proofs.Tests.{and_both, is_at_most}
 use Rattle.fab_rules.specs.Lists.{In}
 use Rattle.fault_script.specs.declared.scripts.Script.{Script}
@@ -23,12 +22,13 @@ use Rattle.run_worlds.specs.Endings.{is_effective, first_missing, IsRunOf, IsEnd
 use Rattle.run_worlds.proofs.RunLogs.{logs_of}
 use Rattle.audit_laws.proofs.Evidence.{clean_run}
 use Rattle.audit_laws.proofs.Premises.{is_world}
-use Rattle.run_laws.proofs.Unforged.{no_signer_named, of_schedule}
+use Rattle.run_laws.proofs.Unforged.{no_signer_named}
 use Rattle.plain_laws.specs.Plain.{IsClash, HasSpent, HasCause}
 use Rattle.plain_laws.proofs.Ends.{ends, one_cluster}
 use Rattle.budget_laws.specs.Budgets.{rounds_of, replicas_in, FitsScript, BudgetLaw}
-use Rattle.budget_laws.specs.Opened.{state_at, full_at, slots_opened, EntriesLaw}
+use Rattle.budget_laws.specs.Opened.{state_at, full_at, slots_opened}
 use Rattle.budget_laws.specs.Proposals.{IsThrifty}
+use Rattle.budget_laws.proofs.Entries.{few_entries}
 use Rattle.budget_laws.proofs.Prefixes.{at_step, run_of}
 use Rattle.budget_laws.proofs.Rounds.{leaves_are, rounds_few}
 use Rattle.budget_laws.proofs.Voicing.{spent_opened}
@@ -60,7 +60,7 @@ found_in p (y ∷ xs) x e = go (p y) (found_in p xs x) e
     go true later q = inl (let same : y ≡ x = cc in same)
     go false later q = inr (later q)
 
-module _ (entries : EntriesLaw) (thrifty : (script : Script) (n : ℕ) → keeps_limits script ≡ true → length script.sizes ≡ 1 → 0 < size_of (roster_of script) 1
+module _ (thrifty : (script : Script) (n : ℕ) → keeps_limits script ≡ true → length script.sizes ≡ 1 → 0 < size_of (roster_of script) 1
     → NoClash (world_of (at_step script n)) → IsThrifty (roster_of script) (state_at (at_step script n) 0).local (full_at (at_step script n) 0)) where
 
   -- a run of one cluster without evidence has neither cause
@@ -77,7 +77,7 @@ module _ (entries : EntriesLaw) (thrifty : (script : Script) (n : ℕ) → keeps
 
     opened : length (slots_opened (at_step script n)) ≤ rounds_of script
     opened =
-        rounds_few script limits one (peopled) fits.leaves (λ k none. thrifty script k limits one peopled none) n (clean_run t (logs_of t run) clean).1
+        rounds_few script limits one peopled fits.leaves (λ k none. thrifty script k limits one peopled none) n (clean_run t (logs_of t run) clean).1
 
     unspent : HasSpent (at_step script n) → ⊥
     unspent spent =
@@ -88,7 +88,7 @@ module _ (entries : EntriesLaw) (thrifty : (script : Script) (n : ℕ) → keeps
     unended over =
         let m = length (slots_opened t) in
         let members = size_of (roster_of script) 1 in
-        let upto : entries_of t ≤ 11 * m * members + 5 * m * members * members + members * length script.requests = entries t one run in
+        let upto : entries_of t ≤ 11 * m * members + 5 * m * members * members + members * length script.requests = few_entries t one run in
         let less = few_entries_then m (rounds_of script) members opened (omega arith) peopled in
         let same : replicas_in script ≡ members = one_size script.sizes one in
         let turns = fits.turns in

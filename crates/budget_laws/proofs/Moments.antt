@@ -1,6 +1,6 @@
 -- A step of the one run, as the journal of the first replica has it: the journal stays, or has one entry more, which the replica could make.
 -- The first replica is nudged only where nothing else can move.
-use Rattle.std.proofs.Common.{◌≡◌, ℕ, zero, suc, ◌+◌, ◌%◌, Bool, true, false, cond, ◌||◌, List, [], ◌∷◌, ◌++◌, length, get_or, ◌⊎◌, inl, inr, Result, Ok, Err, refl, sym, ap, subst, ◌∙◌}
+use Rattle.std.proofs.Common.{◌≡◌, ℕ, zero, suc, ◌+◌, ◌%◌, Bool, true, false, cond, ◌||◌, List, [], ◌∷◌, ◌++◌, length, get_or, ◌⊎◌, inl, inr, Result, Ok, Err, refl, sym, subst, ◌∙◌}
 use Rattle.fab_base.specs.declared.messages.Message.{Message}
 use Rattle.bft_verify.specs.declared.refusals.Refusal.{Refusal}
 use Rattle.run_words.specs.Keyed.{is_same}
@@ -11,7 +11,7 @@ use Rattle.run_words.specs.declared.movers.Mover.{Mover}
 use Rattle.run_words.specs.declared.logs.Entry.{Entry}
 use Rattle.run_words.specs.declared.logs.Pending.{Pending}
 use Rattle.run_words.proofs.Counts.{IsIn, one_by_id, journal_more, journal_other}
-use Rattle.run_words.proofs.Keeping.{IsWell, AreStill, Stands, phase_give, phase_hear, after_well}
+use Rattle.run_words.proofs.Keeping.{AreStill, Stands, phase_give, phase_hear, after_well}
 use Rattle.run_words.proofs.Keys.{same_self}
 use Rattle.run_words.proofs.Steps.{IsStep, AreSteps, step_at, steps_made}
 use Rattle.run_words.proofs.Walks.{entry_next}

@@ -1,6 +1,6 @@
 -- What is proposed by an event: a Batch or a Nudge that makes an entry proposes one batch, and no other event proposes. No replica forms a
 -- certificate of another cluster.
-use Rattle.std.proofs.Common.{◌≡◌, ℕ, zero, suc, ◌≤◌, ◌%◌, nat_eq, nat_lt, Bool, true, false, cond, not, ◌&&◌, ◌||◌, List, [], ◌∷◌, ◌++◌, length, take, drop, append_assoc, Option, Some, None, Result, Ok, Err, ◌⊎◌, inl, inr, refl, sym, ap, subst, ◌∙◌}
+use Rattle.std.proofs.Common.{◌≡◌, ℕ, zero, suc, ◌%◌, nat_eq, nat_lt, Bool, true, false, cond, not, ◌&&◌, ◌||◌, List, [], ◌∷◌, ◌++◌, length, take, drop, append_assoc, Option, Some, None, Result, Ok, Err, inl, inr, refl, sym, ap, subst, ◌∙◌}
 use Rattle.std.specs.List.{list_any}
 use Rattle.std.proofs.lemmas.List.{append-nil}
 use Rattle.fab_base.specs.Limits.{Roster}
@@ -34,9 +34,9 @@ use Rattle.fab_machine.specs.Items.{is_own, vote_of, proposal_of, to_cluster, cl
 use Rattle.fab_machine.specs.Voting.{Told, unmoved, commit_certificate, commit_outs, certified_outs, newly_prepared, newly_committed, outs_after, vote_refusal, proposal_told, prepare_told, commit_told, proposal_by, prepare_by, commit_by}
 use Rattle.fab_machine.specs.Hearing.{hear, hear_checkpoint}
 use Rattle.fab_machine.specs.Checkpointing.{stable_rounds, after_move, heard_again, move_to, checkpoint_by, checkpoint}
-use Rattle.fab_machine.specs.Proposing.{eligible, proposed, is_due, propose_in, propose}
-use Rattle.fab_machine.specs.Rounds.{round_of, knows_others, keep_answer, kept_after, next_round, with_round}
-use Rattle.fab_machine.specs.Step.{Event, after_out, after_outs, after_told, emit_step, makes_entry, note_item, after_noting, own_block, execute_step, propose_step, step, moves}
+use Rattle.fab_machine.specs.Proposing.{eligible, proposed, is_due, propose_in}
+use Rattle.fab_machine.specs.Rounds.{round_of, knows_others, keep_answer, next_round, with_round}
+use Rattle.fab_machine.specs.Step.{Event, after_out, after_outs, after_told, emit_step, makes_entry, note_item, after_noting, own_block, execute_step, propose_step, step}
 use Rattle.fab_machine.specs.Diaries.{diary_sent, diary_did, diary_after}
 use Rattle.fab_machine.specs.Relation.{full_of}
 use Rattle.fab_machine.specs.declared.outs.Out.{Out}

@@ -1,11 +1,10 @@
 -- How many slots the primary of the one run of a script opens: each batch is full, but for one at a quiet moment at which all that the script
 -- asks is proposed.
-use Rattle.std.proofs.Common.{◌≡◌, ℕ, zero, suc, ◌+◌, ◌*◌, ◌/◌, ◌^◌, ◌<◌, ◌≤◌, Bool, true, false, cond, ◌&&◌, ◌||◌, nat_eq, nat_le, nat_lt, List, [], ◌∷◌, ◌++◌, map, filter, take, length, None, ◌⊎◌, inl, inr, refl, sym, ap, subst, ◌∙◌, arith, length-append, append-nil}
-use Rattle.std.specs.Prelude.{slice_index, ◌==◌}
-use Rattle.std.specs.List.{flat_map, sum_by, count_by, range_with_len, list_all}
+use Rattle.std.proofs.Common.{◌≡◌, ℕ, zero, suc, ◌+◌, ◌*◌, ◌/◌, ◌^◌, ◌<◌, ◌≤◌, Bool, true, false, cond, ◌||◌, nat_eq, nat_le, nat_lt, List, [], ◌∷◌, ◌++◌, filter, take, length, None, ◌⊎◌, inl, inr, refl, sym, ap, subst, ◌∙◌, arith, length-append, append-nil}
+use Rattle.std.specs.Prelude.{slice_index}
+use Rattle.std.specs.List.{flat_map, sum_by, range_with_len}
 use Rattle.std.proofs.Math.Nat.{add-mul, one-mul, zero-mul, le-div_iff_mul-le}
 use Rattle.std.proofs.lemmas.Bool.{cases_lt}
-use Rattle.std.proofs.lemmas.Bool.Decides.{nat_tests}
 use Rattle.std.proofs.lemmas.Grind.{flat_map-append}
 use Rattle.std.proofs.lemmas.List.{length-take-le, take_all}
 use Rattle.std.proofs.lemmas.List.Sums.{sum_by-cons, length-filter}
@@ -22,7 +21,7 @@ use Rattle.fab_rules.specs.Lists.{In}
 use Rattle.fab_rules.proofs.Lists.{in_append_left, in_append_right, in_map}
 use Rattle.fab_machine.specs.State.{Local}
 use Rattle.fab_machine.specs.Relation.{full_of}
-use Rattle.fab_machine.specs.Proposing.{stamps_of, expected, eligible}
+use Rattle.fab_machine.specs.Proposing.{expected, eligible}
 use Rattle.fault_script.specs.declared.scripts.Script.{Script}
 use Rattle.fault_script.specs.declared.scripts.Wish.{Wish}
 use Rattle.fault_script.specs.Fields.{is_within}
@@ -31,14 +30,13 @@ use Rattle.fault_script.specs.Scripts.{are_sizes, are_homes, are_wishes, count_o
 use Rattle.world_laws.specs.World.{NoClash}
 use Rattle.heed_laws.specs.Resting.{member}
 use Rattle.run_words.specs.Journal.{Maker, state, diary, IsMade as IsReplayed}
-use Rattle.run_words.specs.Runs.{Rules, Run, journal_in, after, trace_in, transcript, waiting_in}
-use Rattle.run_words.specs.Lawful.{AreEach, Sane, IsSent, IsAllHeard, pending_counted}
+use Rattle.run_words.specs.Runs.{Rules, journal_in, after}
+use Rattle.run_words.specs.Lawful.{AreEach}
 use Rattle.run_words.specs.declared.logs.Entry.{Entry}
-use Rattle.run_words.specs.declared.logs.Trace.{Trace}
 use Rattle.run_words.specs.declared.logs.Transcript.{Transcript}
 use Rattle.run_words.proofs.Counts.{IsIn}
 use Rattle.run_words.proofs.Keeping.{AreStill, IsWell, after_well}
-use Rattle.run_words.proofs.Replays.{sent_or_blocked, fresh_is}
+use Rattle.run_words.proofs.Replays.{fresh_is}
 use Rattle.script_keys.specs.Keys.{leaves_of, replicas_of, height_of}
 use Rattle.script_keys.proofs.Wishes.{asked_in}
 use Rattle.run_worlds.specs.Scripts.{roster_of, maker_of, makers_of, script_rules}
@@ -50,7 +48,7 @@ use Rattle.audit_laws.proofs.Evidence.{no_evidence}
 use Rattle.audit_laws.proofs.Members.{is_listed}
 use Rattle.audit_laws.proofs.Sanity.{sane}
 use Rattle.run_laws.proofs.Unforged.{nothing_forged}
-use Rattle.plain_laws.specs.Plain.{IsUnspent, HasSpent}
+use Rattle.plain_laws.specs.Plain.{IsUnspent}
 use Rattle.plain_laws.proofs.Ends.{spent_or_not}
 use Rattle.plain_laws.proofs.Resting.{IsStill}
 use Rattle.budget_laws.specs.Budgets.{requests_at, rounds_of}
