@@ -1,3 +1,6 @@
 pub mod Moves
 pub mod Voicing
+pub mod Orders
+pub mod Thrift
+pub mod Ordered
 pub mod Prefixes
