@@ -1,6 +1,9 @@
 pub mod Moves
 pub mod Voicing
 pub mod Entries
+pub mod Orders
+pub mod Thrift
+pub mod Ordered
 pub mod Prefixes
 pub mod Sums
 pub mod Putting

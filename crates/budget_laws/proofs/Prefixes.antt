@@ -1,30 +1,54 @@
 -- The one run of a script, step by step: each prefix is a lawful run, and what its replicas heard they have heard ever after.
-use Rattle.std.proofs.Common.{◌≡◌, ℕ, zero, suc, ◌+◌, Bool, true, false, cond, ◌||◌, List, [], ◌∷◌, ◌++◌, map, length, ◌⊎◌, inl, inr, refl, sym, ap, subst, ◌∙◌, Result, Ok, Err, arith, get_or, ◌%◌}
+use Rattle.std.proofs.Common.{◌≡◌, ℕ, zero, suc, ◌+◌, ◌<◌, Bool, true, false, cond, ◌||◌, nat_le, List, [], ◌∷◌, ◌++◌, map, length, ◌⊎◌, inl, inr, refl, sym, ap, subst, ◌∙◌, Result, Ok, Err, arith, get_or, ◌%◌}
+use Rattle.std.specs.Prelude.{slice_index, replicate}
+use Rattle.fab_base.specs.Limits.{Roster}
+use Rattle.fab_base.specs.Roster.{is_replica, is_cluster, size_of}
 use Rattle.fab_base.specs.declared.ids.ReplicaId.{ReplicaId}
 use Rattle.fab_base.specs.declared.requests.Request.{Request}
 use Rattle.fab_base.specs.declared.messages.Message.{Message}
+use Rattle.fab_base.proofs.Tests.{and_both, is_below, is_at_most}
+use Rattle.fab_rules.specs.Diary as diaries
 use Rattle.fab_rules.specs.Diary.{Heard}
 use Rattle.fab_rules.specs.Lists.{In}
 use Rattle.fab_rules.proofs.Lists.{in_append_left}
+use Rattle.fab_rules.proofs.Saying.{heard_before}
+use Rattle.fab_machine.specs.State.{Replica, fresh}
+use Rattle.fab_machine.specs.Items.{statements_in}
+use Rattle.fab_machine.specs.Step.{step}
+use Rattle.fab_machine.specs.Diaries as events
+use Rattle.fab_machine.specs.Diaries.{diary_after, state_from}
+use Rattle.fab_machine.specs.Relation.{full_of, AreRelated}
 use Rattle.fault_script.specs.declared.scripts.Script.{Script}
 use Rattle.fault_script.specs.Scripts.{keeps_limits}
 use Rattle.bft_verify.specs.declared.refusals.Refusal.{Refusal}
 use Rattle.world_laws.specs.World.{IsKnown, NoClash}
-use Rattle.run_words.specs.Keyed.{is_same, of}
-use Rattle.run_words.specs.Journal.{Maker, moves, entry_of, diary, reads}
+use Rattle.heed_laws.specs.Resting.{member, IsVoiced}
+use Rattle.run_words.specs.Keyed.{is_same}
+use Rattle.run_words.specs.Journal.{Maker, event_of, moves, entry_of, state, diary, reads, IsMade}
 use Rattle.run_words.specs.Runs.{Rules, Run, Phase, Step, journal_in, with_entry, give, hear, hear_by, taken_out, steps, pick_from, take_step, next, next_in, is_spent, after, trace_in, transcript}
 use Rattle.run_words.specs.declared.movers.Mover.{Mover}
 use Rattle.run_words.specs.declared.logs.Entry.{Entry}
 use Rattle.run_words.specs.declared.logs.Pending.{Pending}
 use Rattle.run_words.specs.declared.logs.Transcript.{Transcript}
-use Rattle.run_words.proofs.Counts.{journal_other}
-use Rattle.run_words.proofs.Keeping.{after_well, lawful_of}
-use Rattle.run_words.proofs.Keys.{of_more}
-use Rattle.run_worlds.specs.Scripts.{makers_of, script_rules}
+use Rattle.run_words.proofs.Counts.{IsIn, journal_other}
+use Rattle.run_words.proofs.Keeping.{IsTrueLog, after_well, lawful_of}
+use Rattle.run_words.proofs.Keys.{of_more, same_is, same_self}
+use Rattle.run_words.proofs.Replays.{same_diary, state_more}
+use Rattle.script_keys.specs.Keys.{replicas_of}
+use Rattle.run_worlds.specs.Scripts.{roster_of, maker_of, makers_of, script_rules}
 use Rattle.run_worlds.specs.Worlds.{diary_in, world_of}
 use Rattle.run_worlds.specs.Endings.{IsRunOf}
+use Rattle.run_worlds.proofs.ScriptLimits.{within_limits}
 use Rattle.audit_laws.proofs.Journals.{was_heard, is_heard}
+use Rattle.audit_laws.proofs.Members.{is_listed}
 use Rattle.audit_laws.proofs.Sanity.{sane}
+use Rattle.plain_laws.specs.Plain.{journal_by}
+use Rattle.plain_laws.proofs.Members.{journal_related}
+use Rattle.budget_laws.specs.Opened.{state_at, full_at}
+use Rattle.budget_laws.specs.Proposals.{IsThrifty}
+use Rattle.budget_laws.proofs.Ordered.{IsMet, AreApart, ordered, thrifty_of}
+use Rattle.budget_laws.proofs.Thrift.{turn_of, orders_said, IsInTurn, AreOrdered, step_in_turn}
+use Rattle.budget_laws.proofs.Voicing.{voiced}
 
 -- ---- a prefix is lawful
 
@@ -141,3 +165,179 @@ no_clash_before script m k limits late a b ka kb same = late a b (known a ka) (k
     known : (batch : List Request) → (batch ≡ []) ⊎ IsKnown (world_of (at_step script m)) batch → (batch ≡ []) ⊎ IsKnown (world_of (at_step script (m + k))) batch
     known batch (inl none) = inl none
     known batch (inr by) = inr (known_later script m k batch by)
+
+-- ---- the journal and the diary of a replica after so many steps
+
+record IsThere (script : Script) (run : Run) (ids : List ReplicaId) (i : ReplicaId) : Type 0 where
+  journal_is : journal_by i (map (trace_in run) (map (maker_of script) ids)) ≡ journal_in run (maker_of script i)
+  diary_is : diary_in (map (maker_of script) ids) (map (trace_in run) (map (maker_of script) ids)) i ≡ diary (maker_of script i) (journal_in run (maker_of script i))
+
+there : (script : Script) (run : Run) (ids : List ReplicaId) (i : ReplicaId) → In i ids → IsThere script run ids i
+there script run [] i h = absurd h
+there script run (j ∷ ids) i h = go (is_same i j) refl (there script run ids i) h
+  where
+    go : (b : Bool) → is_same i j ≡ b → (In i ids → IsThere script run ids i) → In i (j ∷ ids) → IsThere script run (j ∷ ids) i
+    go true e later q =
+        let is = same_is i j e in
+        let first : IsThere script run (j ∷ ids) j = record {
+          journal_is = ap (λ b. cond b (journal_in run (maker_of script j)) (journal_by j (map (trace_in run) (map (maker_of script) ids)))) (same_self j);
+          diary_is = ap (λ b. cond b (diary (maker_of script j) (journal_in run (maker_of script j))) (diary_in (map (maker_of script) ids) (map (trace_in run) (map (maker_of script) ids)) j)) (same_self j);
+        } in
+        subst (IsThere script run (j ∷ ids)) (sym is) first
+    go false e later (inl q) = absurd (let self = subst (λ k. is_same i k ≡ true) (sym q) (same_self i) in cc)
+    go false e later (inr k) =
+        let l = later k in
+        record {
+          journal_is = ap (λ b. cond b (journal_in run (maker_of script j)) (journal_by i (map (trace_in run) (map (maker_of script) ids)))) e ∙ l.journal_is;
+          diary_is = ap (λ b. cond b (diary (maker_of script j) (journal_in run (maker_of script j))) (diary_in (map (maker_of script) ids) (map (trace_in run) (map (maker_of script) ids)) i)) e ∙ l.diary_is;
+        }
+
+made_of : (script : Script) (ids : List ReplicaId) (i : ReplicaId) → In i ids → IsIn (maker_of script i) (map (maker_of script) ids)
+made_of script [] i h = absurd h
+made_of script (j ∷ ids) i (inl e) = inl (ap (maker_of script) (sym e))
+made_of script (j ∷ ids) i (inr h) = inr (made_of script ids i h)
+
+-- the diary with one entry more
+diary_from_more : (m : Maker) (s : Replica) (past : List diaries.Entry) (journal : List Entry) (e : Entry)
+    → events.diary_from m.roster m.id s past (map event_of (journal ++ e ∷ []))
+    ≡ diary_after m.id (state_from m.roster m.id s (map event_of journal)) (event_of e) (step m.roster m.id (state_from m.roster m.id s (map event_of journal)) (event_of e)).state
+    (events.diary_from m.roster m.id s past (map event_of journal))
+diary_from_more m s past [] e = refl
+diary_from_more m s past (x ∷ rest) e =
+    let now = (step m.roster m.id s (event_of x)).state in
+    diary_from_more m now (diary_after m.id s (event_of x) now past) rest e
+
+diary_more : (m : Maker) (journal : List Entry) (e : Entry) → IsMade m journal → IsMade m (journal ++ e ∷ [])
+    → diary m (journal ++ e ∷ []) ≡ diary_after m.id (state m journal) (event_of e) (step m.roster m.id (state m journal) (event_of e)).state (diary m journal)
+unfolding state
+diary_more m journal e before now =
+    let s = state m journal in
+    same_diary m (journal ++ e ∷ []) now
+    ∙ (diary_from_more m (fresh m.roster m.id) [] journal e
+    ∙ ap (diary_after m.id s (event_of e) (step m.roster m.id s (event_of e)).state) (sym (same_diary m journal before)))
+
+-- no client of a fresh replica has a stamp
+none : (n client : ℕ) → slice_index (replicate n 0) client ≡ 0
+none zero client = refl
+none (suc n) zero = refl
+none (suc n) (suc client) = none n client
+
+-- ---- the primary
+
+module _ (script : Script) (limits : keeps_limits script ≡ true) (one : length script.sizes ≡ 1) (some : 0 < size_of (roster_of script) 1) where
+  abbrev r : Roster
+  r = roster_of script
+
+  abbrev maker : Maker
+  maker = maker_of script (member 0)
+
+  abbrev run_at : ℕ → Run
+  run_at n = after (script_rules script) n
+
+  abbrev journal_at : ℕ → List Entry
+  journal_at n = journal_in (run_at n) maker
+
+  abbrev now_at : ℕ → Replica
+  now_at n = state maker (journal_at n)
+
+  abbrev diary_at : ℕ → List diaries.Entry
+  diary_at n = diary maker (journal_at n)
+
+  abbrev IsClear : ℕ → Type 0
+  IsClear n = NoClash (world_of (at_step script n))
+
+  known : (k : ℕ) → k < size_of (roster_of script) 1 → is_replica (roster_of script) (member k) ≡ true
+  known k l = and_both (is_cluster r 1) _ (and_both (nat_le 1 1) _ refl (is_at_most 1 (length script.sizes) (omega (arith, one)))) (is_below k (size_of r 1) l)
+
+  listed : In (member 0) (replicas_of script)
+  listed = is_listed script (member 0) (known 0 some)
+
+  logs : (n : ℕ) → IsTrueLog maker (journal_at n)
+  logs n = (after_well (script_rules script) n (sane script limits)).fair.logs maker (made_of script (replicas_of script) (member 0) listed)
+
+  related : (n : ℕ) → AreRelated r (member 0) (now_at n) (diary_at n)
+  related n = journal_related maker (journal_at n) (within_limits script limits) (known 0 some) (logs n).0 (logs n).1
+
+  voice : (n : ℕ) → IsVoiced r (state_at (at_step script n)) (full_at (at_step script n))
+  voice n = voiced (at_step script n) (run_of script n limits) one
+
+  state_is : (n : ℕ) → state_at (at_step script n) 0 ≡ now_at n
+  state_is n = ap (state maker) (there script (run_at n) (replicas_of script) (member 0) listed).journal_is
+
+  full_is : (n : ℕ) → full_at (at_step script n) 0 ≡ full_of (member 0) (now_at n) (diary_at n)
+  full_is n =
+      ap (λ s. full_of (member 0) s ((world_of (at_step script n)).diary (member 0))) (state_is n)
+      ∙ ap (full_of (member 0) (now_at n)) (there script (run_at n) (replicas_of script) (member 0) listed).diary_is
+
+  apart : (n : ℕ) → IsClear n → AreApart r (state_at (at_step script n)) (full_at (at_step script n)) (voice n)
+  apart n clear a b ka kb same = clear a b (met a ka) (met b kb) same
+    where
+      met : (batch : List Request) → IsMet r (state_at (at_step script n)) (full_at (at_step script n)) (voice n) batch → (batch ≡ []) ⊎ IsKnown (world_of (at_step script n)) batch
+      met batch (inl none) = inl none
+      met batch (inr (k, l, h)) = inr (record {
+        hearer = member k;
+        correct = record { takes_part = known k l; not_faulty = refl };
+        message = h.message;
+        heard = heard_before ((world_of (at_step script n)).diary (member k)) (statements_in (member k) (state_at (at_step script n) k).outbox) h.message h.heard;
+        inside = h.inside;
+      })
+
+  abbrev IsOrderedAt : Replica → List diaries.Entry → Type 0
+  IsOrderedAt s past = AreOrdered s (orders_said (full_of (member 0) s past))
+
+  ordered_at : (n : ℕ) → IsClear n → IsOrderedAt (now_at n) (diary_at n)
+  ordered_at n clear =
+      subst (λ f. AreOrdered (now_at n) (orders_said f)) (full_is n)
+      (subst (λ s. AreOrdered s (orders_said (full_at (at_step script n) 0))) (state_is n)
+      (ordered r (state_at (at_step script n)) (full_at (at_step script n)) (voice n) (apart n clear) some))
+
+  abbrev IsFineAt : Replica → List diaries.Entry → Type 0
+  IsFineAt s past = IsInTurn r (turn_of s.local) (orders_said (full_of (member 0) s past))
+
+  -- at the start nothing is proposed
+  start_in_turn : IsFineAt (now_at 0) (diary_at 0)
+  unfolding state diary
+  start_in_turn = record {
+    done = [];
+    rest = [];
+    orders_are = refl;
+    executed_is = refl;
+    proposed_are = refl;
+    last_is = λ client home. none (length (roster_of script).homes) client.number;
+    stamps = λ client home. tt;
+  }
+
+  in_turn : (n : ℕ) → IsClear n → IsFineAt (now_at n) (diary_at n)
+  in_turn zero clear = start_in_turn
+  in_turn (suc n) clear = by (in_turn n before) (next_longer (script_rules script) maker (run_at n))
+    where
+      before : IsClear n
+      before = no_clash_before script n 1 limits (subst (λ p. IsClear p) (let e : suc n ≡ n + 1 = omega arith in e) clear)
+
+      by : IsFineAt (now_at n) (diary_at n) → IsLonger (journal_at n) (journal_at (suc n)) → IsFineAt (now_at (suc n)) (diary_at (suc n))
+      by fine (inl same) = subst (λ j. IsFineAt (state maker j) (diary maker j)) (sym same) fine
+      by fine (inr (e, more)) =
+          let s = now_at n in
+          let past = diary_at n in
+          let ev = event_of e in
+          let now = (step r (member 0) s ev).state in
+          let grown = diary_after (member 0) s ev now past in
+          let state_new : now_at (suc n) ≡ now = ap (state maker) more ∙ state_more maker (journal_at n) e in
+          let made : IsMade maker (journal_at n ++ e ∷ []) = subst (IsMade maker) more (logs (suc n)).0 in
+          let diary_new : diary_at (suc n) ≡ grown = ap (diary maker) more ∙ diary_more maker (journal_at n) e (logs n).0 made in
+          let after : AreRelated r (member 0) now grown = subst (AreRelated r (member 0) now) diary_new (subst (λ x. AreRelated r (member 0) x (diary_at (suc n))) state_new (related (suc n))) in
+          let orders : IsOrderedAt now grown = subst (IsOrderedAt now) diary_new (subst (λ x. IsOrderedAt x (diary_at (suc n))) state_new (ordered_at (suc n) clear)) in
+          let all : IsFineAt now grown = step_in_turn r s past ev one (related n) (ordered_at n before) after orders fine in
+          subst (λ x. IsFineAt x (diary_at (suc n))) (sym state_new) (subst (IsFineAt now) (sym diary_new) all)
+
+  thrifty_at : (n : ℕ) → IsClear n → IsThrifty r (state_at (at_step script n) 0).local (full_at (at_step script n) 0)
+  thrifty_at n clear =
+      subst (λ s. IsThrifty r s.local (full_at (at_step script n) 0)) (sym (state_is n))
+      (subst (IsThrifty r (now_at n).local) (sym (full_is n))
+      (thrifty_of r (now_at n) (full_of (member 0) (now_at n) (diary_at n)) (ordered_at n clear) (in_turn n clear)))
+
+-- a primary wastes nothing, after so many steps of the one run in which no two batches share a digest
+pub thrifty : (script : Script) (n : ℕ) → keeps_limits script ≡ true → length script.sizes ≡ 1 → 0 < size_of (roster_of script) 1
+    → NoClash (world_of (transcript (script_rules script) (after (script_rules script) n)))
+    → (let t = transcript (script_rules script) (after (script_rules script) n) in IsThrifty (roster_of script) (state_at t 0).local (full_at t 0))
+thrifty script n limits one some clear = thrifty_at script limits one some n clear
