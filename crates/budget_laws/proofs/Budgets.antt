@@ -60,76 +60,73 @@ found_in p (y ∷ xs) x e = go (p y) (found_in p xs x) e
     go true later q = inl (let same : y ≡ x = cc in same)
     go false later q = inr (later q)
 
-module _ (thrifty : (script : Script) (n : ℕ) → keeps_limits script ≡ true → length script.sizes ≡ 1 → 0 < size_of (roster_of script) 1
-    → NoClash (world_of (at_step script n)) → IsThrifty (roster_of script) (state_at (at_step script n) 0).local (full_at (at_step script n) 0)) where
+-- a run of one cluster without evidence has neither cause
+module _ (script : Script) (limits : keeps_limits script ≡ true) (fits : FitsScript script) (n : ℕ) (one : length script.sizes ≡ 1)
+    (clean : first_evidence (at_step script n) ≡ None) where
+  abbrev t : Transcript
+  t = at_step script n
 
-  -- a run of one cluster without evidence has neither cause
-  module _ (script : Script) (limits : keeps_limits script ≡ true) (fits : FitsScript script) (n : ℕ) (one : length script.sizes ≡ 1)
-      (clean : first_evidence (at_step script n) ≡ None) where
-    abbrev t : Transcript
-    t = at_step script n
+  run : IsRunOf script (at_step script n)
+  run = run_of script n limits
 
-    run : IsRunOf script (at_step script n)
-    run = run_of script n limits
+  peopled : 1 ≤ size_of (roster_of script) 1
+  peopled = (is_world t (logs_of t run)).peopled 1 (and_both (nat_le 1 1) (nat_le 1 (length script.sizes)) refl (is_at_most 1 (length script.sizes) (omega (arith, one))))
 
-    peopled : 1 ≤ size_of (roster_of script) 1
-    peopled = (is_world t (logs_of t run)).peopled 1 (and_both (nat_le 1 1) (nat_le 1 (length script.sizes)) refl (is_at_most 1 (length script.sizes) (omega (arith, one))))
+  opened : length (slots_opened (at_step script n)) ≤ rounds_of script
+  opened =
+      rounds_few script limits one peopled fits.leaves n (clean_run t (logs_of t run) clean).1
 
-    opened : length (slots_opened (at_step script n)) ≤ rounds_of script
-    opened =
-        rounds_few script limits one peopled fits.leaves (λ k none. thrifty script k limits one peopled none) n (clean_run t (logs_of t run) clean).1
+  unspent : HasSpent (at_step script n) → ⊥
+  unspent spent =
+      let upto = spent_opened t (omega (arith, one)) run spent in
+      omega (arith, upto, opened, leaves_are script spent.trace.id limits, fits.leaves)
 
-    unspent : HasSpent (at_step script n) → ⊥
-    unspent spent =
-        let upto = spent_opened t (omega (arith, one)) run spent in
-        omega (arith, upto, opened, leaves_are script spent.trace.id limits, fits.leaves)
+  unended : script.turns ≤ entries_of (at_step script n) → ⊥
+  unended over =
+      let m = length (slots_opened t) in
+      let members = size_of (roster_of script) 1 in
+      let upto : entries_of t ≤ 11 * m * members + 5 * m * members * members + members * length script.requests = few_entries t one run in
+      let less = few_entries_then m (rounds_of script) members opened (omega arith) peopled in
+      let same : replicas_in script ≡ members = one_size script.sizes one in
+      let turns = fits.turns in
+      let at : 32 * rounds_of script * members * members + members * length script.requests ≤ script.turns =
+      subst (λ k. 32 * rounds_of script * k * k + k * length script.requests ≤ script.turns) same fits.turns in
+      omega (arith, over, upto, less, at)
 
-    unended : script.turns ≤ entries_of (at_step script n) → ⊥
-    unended over =
-        let m = length (slots_opened t) in
-        let members = size_of (roster_of script) 1 in
-        let upto : entries_of t ≤ 11 * m * members + 5 * m * members * members + members * length script.requests = few_entries t one run in
-        let less = few_entries_then m (rounds_of script) members opened (omega arith) peopled in
-        let same : replicas_in script ≡ members = one_size script.sizes one in
-        let turns = fits.turns in
-        let at : 32 * rounds_of script * members * members + members * length script.requests ≤ script.turns =
-        subst (λ k. 32 * rounds_of script * k * k + k * length script.requests ≤ script.turns) same fits.turns in
-        omega (arith, over, upto, less, at)
+  no_cause : (end : End) → HasCause script (at_step script n) end → IsClash end
+  no_cause end (inl spent) = absurd (unspent spent)
+  no_cause end (inr (inl over)) = absurd (unended over)
+  no_cause end (inr (inr clash)) = clash
 
-    no_cause : (end : End) → HasCause script (at_step script n) end → IsClash end
-    no_cause end (inl spent) = absurd (unspent spent)
-    no_cause end (inr (inl over)) = absurd (unended over)
-    no_cause end (inr (inr clash)) = clash
+-- a request that is missing has a cluster for its home
+missing_one : (t : Transcript) (end : End) → length t.script.sizes ≤ 1 → IsRunOf t.script t → (end ≡ End.Done → ⊥) → (w : Option Wish) → first_missing t ≡ w
+    → IsEndBy t end w → length t.script.sizes ≡ 1
+missing_one t end few lawful other (Some w) e h = one_cluster t few lawful w (found_in (λ wish. not (is_effective t wish)) t.script.requests w e)
+missing_one t End.Done few lawful other None e h = absurd (other refl)
+missing_one t (End.Stalled client stamp) few lawful other None e h = absurd h
+missing_one t (End.Spent count) few lawful other None e h = absurd h
+missing_one t (End.Broken evidence) few lawful other None e h = absurd h
 
-  -- a request that is missing has a cluster for its home
-  missing_one : (t : Transcript) (end : End) → length t.script.sizes ≤ 1 → IsRunOf t.script t → (end ≡ End.Done → ⊥) → (w : Option Wish) → first_missing t ≡ w
-      → IsEndBy t end w → length t.script.sizes ≡ 1
-  missing_one t end few lawful other (Some w) e h = one_cluster t few lawful w (found_in (λ wish. not (is_effective t wish)) t.script.requests w e)
-  missing_one t End.Done few lawful other None e h = absurd (other refl)
-  missing_one t (End.Stalled client stamp) few lawful other None e h = absurd h
-  missing_one t (End.Spent count) few lawful other None e h = absurd h
-  missing_one t (End.Broken evidence) few lawful other None e h = absurd h
+by_end : (script : Script) (n : ℕ) (spent : Bool) (end : End) → length script.sizes ≤ 1 → keeps_limits script ≡ true → FitsScript script
+    → IsSchedule (script_rules script) (at_step script n) spent → IsEnd (at_step script n) end → (end ≡ End.Done) ⊎ IsClash end
+by_end script n spent End.Done few limits fits schedule h = inl refl
+by_end script n spent (End.Broken (Evidence.Clash digest a b)) few limits fits schedule h = inr tt
+by_end script n spent (End.Broken (Evidence.Forged i place signer)) few limits fits schedule h =
+    absurd (no_signer_named script (at_step script n) (run_of script n limits) i place signer h)
+by_end script n spent (End.Stalled client stamp) few limits fits schedule h =
+    let one = missing_one (at_step script n) (End.Stalled client stamp) few (run_of script n limits) (λ e. cc) (first_missing (at_step script n)) refl h.1 in
+    elim (ends script (at_step script n) spent (End.Stalled client stamp) few limits schedule h) [
+      | inl done ↦ inl done
+      | inr cause ↦ inr (no_cause script limits fits n one h.0 (End.Stalled client stamp) cause)
+    ]
+by_end script n spent (End.Spent count) few limits fits schedule h =
+    let one = missing_one (at_step script n) (End.Spent count) few (run_of script n limits) (λ e. cc) (first_missing (at_step script n)) refl h.1 in
+    elim (ends script (at_step script n) spent (End.Spent count) few limits schedule h) [
+      | inl done ↦ inl done
+      | inr cause ↦ inr (no_cause script limits fits n one h.0 (End.Spent count) cause)
+    ]
 
-  by_end : (script : Script) (n : ℕ) (spent : Bool) (end : End) → length script.sizes ≤ 1 → keeps_limits script ≡ true → FitsScript script
-      → IsSchedule (script_rules script) (at_step script n) spent → IsEnd (at_step script n) end → (end ≡ End.Done) ⊎ IsClash end
-  by_end script n spent End.Done few limits fits schedule h = inl refl
-  by_end script n spent (End.Broken (Evidence.Clash digest a b)) few limits fits schedule h = inr tt
-  by_end script n spent (End.Broken (Evidence.Forged i place signer)) few limits fits schedule h =
-      absurd (no_signer_named script (at_step script n) (run_of script n limits) i place signer h)
-  by_end script n spent (End.Stalled client stamp) few limits fits schedule h =
-      let one = missing_one (at_step script n) (End.Stalled client stamp) few (run_of script n limits) (λ e. cc) (first_missing (at_step script n)) refl h.1 in
-      elim (ends script (at_step script n) spent (End.Stalled client stamp) few limits schedule h) [
-        | inl done ↦ inl done
-        | inr cause ↦ inr (no_cause script limits fits n one h.0 (End.Stalled client stamp) cause)
-      ]
-  by_end script n spent (End.Spent count) few limits fits schedule h =
-      let one = missing_one (at_step script n) (End.Spent count) few (run_of script n limits) (λ e. cc) (first_missing (at_step script n)) refl h.1 in
-      elim (ends script (at_step script n) spent (End.Spent count) few limits schedule h) [
-        | inl done ↦ inl done
-        | inr cause ↦ inr (no_cause script limits fits n one h.0 (End.Spent count) cause)
-      ]
-
-  pub budget : BudgetLaw
-  budget script t spent end few limits fits schedule h =
-      by_end script schedule.0 spent end few limits fits
-      (subst (λ x. IsSchedule (script_rules script) x spent) schedule.2 schedule) (subst (λ x. IsEnd x end) schedule.2 h)
+pub within_budget : BudgetLaw
+within_budget script t spent end few limits fits schedule h =
+    by_end script schedule.0 spent end few limits fits
+    (subst (λ x. IsSchedule (script_rules script) x spent) schedule.2 schedule) (subst (λ x. IsEnd x end) schedule.2 h)

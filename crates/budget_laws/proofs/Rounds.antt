@@ -57,7 +57,7 @@ use Rattle.budget_laws.specs.Proposals.{proposals_said, requests_said, stamps_sa
 use Rattle.budget_laws.proofs.Asked.{stamps_among, member_known, home_is, requests_few, requests_all, last_eligible}
 use Rattle.budget_laws.proofs.Journals.{journal_at, diary_at, first_of_all, batches_by, HasBatch, one_step}
 use Rattle.budget_laws.proofs.Moments.{step_of}
-use Rattle.budget_laws.proofs.Prefixes.{at_step, run_of, no_clash_before}
+use Rattle.budget_laws.proofs.Prefixes.{at_step, run_of, no_clash_before, thrifty}
 use Rattle.budget_laws.proofs.Stillness.{heard_then, sent_then, idle_then}
 use Rattle.budget_laws.proofs.Sums.{go_below, go_last}
 use Rattle.budget_laws.proofs.Voicing.{next_opened, spent_opened}
@@ -183,8 +183,7 @@ filled_last script batches now b e some few whole h =
     (sym count) (sym requests) more
 
 module _ (script : Script) (limits : keeps_limits script ≡ true) (one : length script.sizes ≡ 1) (some : 0 < size_of (roster_of script) 1)
-    (fits : 5 * rounds_of script + 8 ≤ 2 ^ script.height)
-    (thrifty : (n : ℕ) → NoClash (world_of (at_step script n)) → IsThrifty (roster_of script) (state_at (at_step script n) 0).local (full_at (at_step script n) 0)) where
+    (fits : 5 * rounds_of script + 8 ≤ 2 ^ script.height) where
   abbrev rules : Rules
   rules = script_rules script
 
@@ -202,6 +201,9 @@ module _ (script : Script) (limits : keeps_limits script ≡ true) (one : length
 
   run : (n : ℕ) → IsRunOf script (at_step script n)
   run n = run_of script n limits
+
+  wastes_nothing : (n : ℕ) → NoClash (world_of (at_step script n)) → IsThrifty (roster_of script) (state_at (at_step script n) 0).local (full_at (at_step script n) 0)
+  wastes_nothing n none = thrifty script n limits one some none
 
   listed : In (member 0) (replicas_of script)
   listed = is_listed script (member 0) (member_known (t 0) (run 0) one some)
@@ -233,14 +235,14 @@ module _ (script : Script) (limits : keeps_limits script ≡ true) (one : length
       (step_of rules primary first.others first.makers_are (sane script limits) n)
 
   few : (n : ℕ) → NoClash (world_of (at_step script n)) → length (requests_said (full_at (at_step script n) 0)) ≤ length script.requests
-  few n none = requests_few (t n) (run n) one some (thrifty n none)
+  few n none = requests_few (t n) (run n) one some (wastes_nothing n none)
 
   -- the slots that were opened
   pub opened_few : (n : ℕ) → NoClash (world_of (at_step script n)) → AreFilled script (proposals_said (full_at (at_step script n) 0))
       → length (slots_opened (at_step script n)) ≤ rounds_of script
   opened_few n none filled =
       let bound = few_batches (length (batches n)) script.batch (length (requests_said (full_at (t n) 0))) (length script.requests) filled (few n none) (some_batch script limits) in
-      let next_is = (thrifty n none).next_is in
+      let next_is = (wastes_nothing n none).next_is in
       let rounds = rounds_are script one (λ w h. home_is (t n) (run n) one some w.client.number (asked_in script w limits h).declared) in
       omega (arith, bound, next_is, next_opened (t n) one (run n) some, rounds)
 
@@ -270,9 +272,9 @@ module _ (script : Script) (limits : keeps_limits script ≡ true) (one : length
       each c lt =
           let client : ClientId = record { number = c } in
           let home = home_is (t n) (run n) one some c lt in
-          let goes = (thrifty n none).stamps client home in
-          let goes_on = (thrifty (suc n) later).stamps client home in
-          let next_is = (thrifty n none).expected_is client home in
+          let goes = (wastes_nothing n none).stamps client home in
+          let goes_on = (wastes_nothing (suc n) later).stamps client home in
+          let next_is = (wastes_nothing n none).expected_is client home in
           let now = stamps_said c (full_at (t (suc n)) 0) in
           let before = stamps_said c (full_at (t n) 0) in
           elim (cases_lt (count_of c script.requests) (expected (state_at (t n) 0).local c)) [
