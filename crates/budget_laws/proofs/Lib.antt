@@ -1,3 +1,15 @@
 pub mod Moves
 pub mod Voicing
 pub mod Entries
+pub mod Orders
+pub mod Thrift
+pub mod Ordered
+pub mod Prefixes
+pub mod Sums
+pub mod Putting
+pub mod Moments
+pub mod Journals
+pub mod Asked
+pub mod Stillness
+pub mod Rounds
+pub mod Budgets

@@ -1,4 +1,5 @@
 //! The laws of budgets.
+ghost use Rattle.budget_laws.specs.Budgets.{BudgetLaw};
 ghost use Rattle.budget_laws.specs.Opened.{OpenedLaw, SignedLaw, NextLaw, MovedLaw, SentLaw, EntriesLaw};
 
 /// In a lawful run of a script of one cluster, settled or not, each replica has signed five contents at most for each slot that the primary
@@ -6,6 +7,10 @@ ghost use Rattle.budget_laws.specs.Opened.{OpenedLaw, SignedLaw, NextLaw, MovedL
 /// next one (`next`). Its entries that are neither hearings nor sendings are six at most for each such slot (`moved`), and it sent five times
 /// at most for each (`sent`). With o such slots, n members and q requests all journals have 11on + 5on² + nq entries at most (`entries`): each
 /// hears no more than was put to it, which is one copy at most of each request and of each item that was sent.
+///
+/// The primary opens no more slots than its clients' requests fill, and one more: each batch is full, but for one, which is proposed at a
+/// moment at which nothing else can move, and which has all that the script asks and that wasn't proposed. So the one run of a script of one
+/// cluster whose keys and turns are enough for that many rounds ends done, or two batches have one digest (`budget`).
 pub fn budget_law()
     ensures signed { SignedLaw }
     ensures opened { OpenedLaw }
@@ -13,4 +18,5 @@ pub fn budget_law()
     ensures moved { MovedLaw }
     ensures sent { SentLaw }
     ensures entries { EntriesLaw }
+    ensures budget { BudgetLaw }
 {}

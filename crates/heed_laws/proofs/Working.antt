@@ -122,7 +122,7 @@ module _ (r : Roster) (me : ReplicaId) (l : Local) where
 pub one_said : (me : ReplicaId) (m : Message) → is_own me (signer_of m) ≡ true → length (statements_by me m) ≡ 1
 one_said me m e = ap (λ b. length (cond b (unsigned m ∷ []) [])) e
 
-outs_local : (s : Replica) (outs : List Out) → (after_outs s outs).local ≡ s.local
+pub outs_local : (s : Replica) (outs : List Out) → (after_outs s outs).local ≡ s.local
 outs_local s [] = refl
 outs_local s (Out.Put item ∷ rest) = outs_local (after_out s (Out.Put item)) rest
 outs_local s (Out.Certified k ∷ rest) = outs_local (after_out s (Out.Certified k)) rest
