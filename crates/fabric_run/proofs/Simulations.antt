@@ -1,19 +1,28 @@
 -- What a run of `sim` tells by its exit.
-use Rattle.std.proofs.Common.{◌≡◌, ℕ, List, None, subst, sym, ◌∙◌}
+use Rattle.std.proofs.Common.{◌≡◌, ℕ, ◌≤◌, List, length, None, ap, subst, sym, ◌∙◌}
 use Rattle.fab_io.specs.Devices.{Supply}
 use Rattle.fault_script.specs.declared.scripts.Script.{Script}
 use Rattle.world_laws.specs.Safety.{IsSafe}
 use Rattle.run_words.specs.declared.ends.End.{End}
+use Rattle.run_words.specs.declared.ends.Evidence.{Evidence}
 use Rattle.run_words.specs.declared.logs.Transcript.{Transcript}
 use Rattle.run_worlds.specs.Worlds.{world_of}
 use Rattle.run_worlds.specs.Sights.{first_evidence}
 use Rattle.run_worlds.specs.Endings.{IsRunOf, IsEnd}
 use Rattle.run_worlds.proofs.RunLogs.{logs_of}
 use Rattle.audit_laws.proofs.Evidence.{safe_run}
+use Rattle.audit_laws.proofs.Witnesses.{witness}
+use Rattle.run_laws.proofs.Unforged.{no_signer_named}
+use Rattle.plain_laws.proofs.Ends.{stalled, cut_off}
+use Rattle.plain_laws.proofs.ReadScripts.{read_one}
+use Rattle.script_sim.specs.Schedules.{IsScheduleOf}
+use Rattle.ledger_report.specs.Report.{report_text}
+use Rattle.ledger_report.specs.Printed.{world_text}
+use Rattle.ledger_report.proofs.Printed.{printed}
 use Rattle.fabric_run.specs.declared.exits.Exit.{Exit}
 use Rattle.fabric_run.specs.declared.exits.Exit.TheVariants.{Done, Usage, ReadFault, WriteFault, TooLong, BadScript, Stalled, Spent, Broken, NoMemory}
 use Rattle.fabric_run.specs.Exits.{Seen, GaveScript, HandsOver, WroteAll, Ends}
-use Rattle.fabric_run.specs.Simulated.{exit_of, IsSimulation, SimMakes, HasRun, KeepsRun, IsSafeAt}
+use Rattle.fabric_run.specs.Simulated.{exit_of, IsSimulation, SimMakes, HasRun, KeepsRun, IsSafeAt, IsPrintedAt, HasCauseAt}
 use Rattle.fabric_run.proofs.Endings.{handed}
 
 -- the run is one of its transcript's own script
@@ -70,3 +79,52 @@ safe_from old new before t TooLong e h = tt
 safe_from old new before t (BadScript bad) e h = tt
 safe_from old new before t NoMemory e h = tt
 safe_from old new before t Usage e h = tt
+
+-- ---- what is printed
+
+printed_of : (old new : Supply) (t : Transcript) → HasRun old new t → (end : End) → report_text t end ≡ world_text t end
+printed_of old new t h end = printed t end (logs_of t (own_run h.0 t h.4))
+
+pub printed_from : (old new : Supply) (before t : Transcript) (exit : Exit) → KeepsRun old new before t exit → IsPrintedAt t exit
+printed_from old new before t Done h = printed_of old new t h
+printed_from old new before t (Stalled client stamp) h = printed_of old new t h
+printed_from old new before t (Spent entries) h = printed_of old new t h
+printed_from old new before t (Broken evidence) h = printed_of old new t h
+printed_from old new before t (WriteFault written) h = printed_of old new t h
+printed_from old new before t ReadFault h = tt
+printed_from old new before t TooLong h = tt
+printed_from old new before t (BadScript bad) h = tt
+printed_from old new before t NoMemory h = tt
+printed_from old new before t Usage h = tt
+
+-- ---- why a run didn't end done
+
+-- by how it ended
+cause_by : (script : Script) (t : Transcript) (end : End) → length script.sizes ≤ 1 → t.script ≡ script → IsScheduleOf script t → IsRunOf script t → IsEnd t end
+    → HasCauseAt t (exit_of end)
+cause_by script t End.Done few is schedule run h = tt
+cause_by script t (End.Stalled client stamp) few is schedule run h =
+    stalled t client stamp (subst (λ s. length s.sizes ≤ 1) (sym is) few) (own_run script t run) h
+cause_by script t (End.Spent entries) few is schedule run h =
+    subst (λ (s : Script). entries ≡ s.turns) (sym is) (cut_off script t schedule.0 entries run.limits schedule.1 h)
+cause_by script t (End.Broken (Evidence.Clash digest a b)) few is schedule run h =
+    witness t (logs_of t (own_run script t run)) (Evidence.Clash digest a b) h
+cause_by script t (End.Broken (Evidence.Forged i place signer)) few is schedule run h = no_signer_named script t run i place signer h
+
+cause_of : (old new : Seen) (t : Transcript) (exit : Exit) → HasRun old.source new.source t → WroteAll (SimMakes t) old new exit → HasCauseAt t exit
+cause_of old new t exit h w =
+    let made : SimMakes t w.0 exit w.2.0 = w.2.1 in
+    let few = read_one h.1.0 h.0 h.1.2 in
+    subst (HasCauseAt t) (sym made.1.2) (cause_by h.0 t made.1.0 few h.2 h.3 h.4 made.1.1)
+
+pub cause_from : (old new : Seen) (before t : Transcript) (exit : Exit) → Ends (SimMakes t) old new exit → KeepsRun old.source new.source before t exit → HasCauseAt t exit
+cause_from old new before t Done e h = tt
+cause_from old new before t (Stalled client stamp) e h = cause_of old new t (Stalled client stamp) h e
+cause_from old new before t (Spent entries) e h = cause_of old new t (Spent entries) h e
+cause_from old new before t (Broken evidence) e h = cause_of old new t (Broken evidence) h e
+cause_from old new before t (WriteFault written) e h = tt
+cause_from old new before t ReadFault e h = tt
+cause_from old new before t TooLong e h = tt
+cause_from old new before t (BadScript bad) e h = tt
+cause_from old new before t NoMemory e h = tt
+cause_from old new before t Usage e h = tt

@@ -4,11 +4,15 @@ use Rattle.fab_io.specs.Devices.{Supply}
 use Rattle.fault_script.specs.declared.scripts.Script.{Script}
 use Rattle.world_laws.specs.Safety.{IsSafe}
 use Rattle.run_words.specs.declared.ends.End.{End}
+use Rattle.run_words.specs.declared.ends.Evidence.{Evidence}
 use Rattle.run_words.specs.declared.logs.Transcript.{Transcript}
 use Rattle.run_worlds.specs.Worlds.{world_of}
 use Rattle.run_worlds.specs.Endings.{IsRunOf, IsEnd}
 use Rattle.script_sim.specs.Schedules.{IsScheduleOf}
+use Rattle.audit_laws.specs.Witnesses.{IsClash}
+use Rattle.plain_laws.specs.Plain.{HasSpent}
 use Rattle.ledger_report.specs.Report.{report_text}
+use Rattle.ledger_report.specs.Printed.{world_text}
 use Rattle.fabric_run.specs.declared.exits.Exit.{Exit}
 use Rattle.fabric_run.specs.declared.exits.Exit.TheVariants.{Done, Usage, ReadFault, TooLong, BadScript, Stalled, Spent, Broken, NoMemory}
 use Rattle.fabric_run.specs.Exits.{Seen, GaveScript, IsRun}
@@ -55,8 +59,28 @@ IsSafeAt kept (Stalled client stamp) = IsSafe (world_of kept)
 IsSafeAt kept (Spent entries) = IsSafe (world_of kept)
 IsSafeAt kept exit = Unit {0}
 
+-- where a run was made, its report is that of its world, whatever its end: what is printed is the ledgers that the headline speaks of
+abbrev pub IsPrintedAt : Transcript → Exit → Type 0
+IsPrintedAt kept Usage = Unit {0}
+IsPrintedAt kept ReadFault = Unit {0}
+IsPrintedAt kept TooLong = Unit {0}
+IsPrintedAt kept (BadScript bad) = Unit {0}
+IsPrintedAt kept NoMemory = Unit {0}
+IsPrintedAt kept exit = (end : End) → report_text kept end ≡ world_text kept end
+
+-- why a run didn't end done: some replica used up its key; the run has just as many entries as its script allows; two different batches have one
+-- digest. Nothing in it is forged
+abbrev pub HasCauseAt : Transcript → Exit → Type 0
+HasCauseAt kept (Stalled client stamp) = HasSpent kept
+HasCauseAt kept (Spent entries) = entries ≡ kept.script.turns
+HasCauseAt kept (Broken (Evidence.Clash digest first second)) = IsClash kept digest first second
+HasCauseAt kept (Broken (Evidence.Forged i place signer)) = ⊥
+HasCauseAt kept exit = Unit {0}
+
 -- a run of `sim` from one moment to the other, with the transcripts that were and are kept, and how it ended
 pub record IsSimulated (before after : Transcript) (old new : Seen) (exit : Exit) : Type 0 where
   pub run : IsRun (SimMakes after) old new exit
   pub kept : KeepsRun old.source new.source before after exit
   pub safe : IsSafeAt after exit
+  pub printed : IsPrintedAt after exit
+  pub cause : HasCauseAt after exit

@@ -3,7 +3,7 @@ ghost use Rattle.std.specs.Prelude.{◌≡◌, true, IfOk};
 ghost use Rattle.fault_script.specs.Scripts.{keeps_limits};
 ghost use Rattle.run_words.specs.Runs.{empty_transcript};
 ghost use Rattle.fabric_run.specs.Exits.{seen, Ends, IsRun};
-ghost use Rattle.fabric_run.specs.Simulated.{exit_of, IsSimulation, SimMakes, KeepsRun, IsSafeAt};
+ghost use Rattle.fabric_run.specs.Simulated.{exit_of, IsSimulation, SimMakes, KeepsRun, IsSafeAt, IsPrintedAt, HasCauseAt};
 
 use crate::exits::Exit;
 use crate::transfer::{hand_over, script_from};
@@ -86,7 +86,11 @@ fn run<S: Source, K: Sink>(
 /// refused (`kept`).
 ///
 /// At `Done`, `Stalled` and `Spent` the replicas agree, with no premise left: their ledgers are prefixes of one, nothing in it takes effect
-/// twice or without its client, and what enough replicas told of a block is so (`safe`).
+/// twice or without its client, and what enough replicas told of a block is so (`safe`). The ledgers that the report prints are the ones of
+/// which this is said (`printed`).
+///
+/// A run ends done, or has a cause (`cause`): at `Stalled` some replica has used up its key, at `Spent` the run has just as many entries as its
+/// script allows, and at `Broken` two different batches of the run share a digest. No run is broken by a forged statement.
 pub fn simulate_script<S: Source, K: Sink>(
     alloc: Global,
     script: &mut S,
@@ -97,6 +101,8 @@ pub fn simulate_script<S: Source, K: Sink>(
     ensures run { IsRun (SimMakes kept.new) (seen (S.supply script.old) (K.intake report.old)) (seen (S.supply script.new) (K.intake report.new)) result }
     ensures kept { KeepsRun (S.supply script.old) (S.supply script.new) kept.old kept.new result }
     ensures safe { IsSafeAt kept.new result }
+    ensures printed { IsPrintedAt kept.new result }
+    ensures cause { HasCauseAt kept.new result }
 {
     run(alloc, script, report, kept)
 }

@@ -45,10 +45,10 @@ use Rattle.fab_machine.specs.Relation.{full_of, AreRelated, after_puts}
 use Rattle.fab_machine.specs.declared.outs.Out.{Out}
 use Rattle.fab_machine.proofs.Members.{IsMember, is_member}
 use Rattle.fab_machine.proofs.Blocks.{grown_by_blocks}
-use Rattle.fab_machine.proofs.Locals.{local_grown}
 use Rattle.fab_machine.proofs.Quorums.{prepared_slot, committed_slot}
 use Rattle.fab_machine.proofs.Keeping.{first_stays, is_kept, is_whole}
 use Rattle.fab_machine.proofs.Starting.{starts_state}
+use Rattle.fab_machine.proofs.Stepping as machine
 use Rattle.fab_machine.proofs.Stepping.{full_put}
 use Rattle.fab_machine.proofs.Telling.{own}
 use Rattle.fab_machine.proofs.Steps.{step_keeps, starts_related}
@@ -189,11 +189,7 @@ hear_heedful r me s diary m member fine rel h =
     let full = after_saying diary items in
     let now = after_saying next items in
     let g = waiting_has_grown diary next items (grown_by_heard diary m) in
-    let shaped = λ (x : Message) (q : In (Heard x) now). (elim (heard_before next items x q) as (λ _. IsShaped r x) [
-      | inl e ↦ subst (IsShaped r) (same_heard m x e) fine
-      | inr k ↦ rel.local.shaped x (still_heard diary items x k)
-    ]) in
-    let local = local_grown r me s.local full now g shaped rel.local in
+    let local = (machine.hears r me s diary m fine rel).local in
     let says : SaysAll full now = λ x q. (elim (said_cases diary items x q) [
       | inl old ↦ still_said next items x (inr old)
       | inr waits ↦ now_said next items x waits

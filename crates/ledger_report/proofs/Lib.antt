@@ -4,3 +4,4 @@ pub mod Longest
 pub mod Replaying
 pub mod Replicas
 pub mod Whole
+pub mod Printed

@@ -3,3 +3,4 @@ pub mod Report
 pub mod Telling
 pub mod Walking
 pub mod Replayed
+pub mod Printed

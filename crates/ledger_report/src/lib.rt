@@ -11,9 +11,11 @@
 //! - `notes`: which notes replicas sent of a block.
 //! - `blocks`: the lines of a ledger's blocks, whose requests are applied anew.
 //! - `runs`: the run of the longest ledger, blocks and table.
+//! - `laws`: that the ledgers printed are those of the run's world.
 #![tactic(auto)]
 
 mod blocks;
+mod laws;
 mod ledgers;
 mod lines;
 mod notes;
@@ -21,5 +23,6 @@ mod reporting;
 mod runs;
 mod text;
 
+pub use laws::report_law;
 pub use reporting::report;
 pub use text::{push_done, push_replies, push_table};

@@ -11,3 +11,4 @@ pub mod Acted
 pub mod Asked
 pub mod Opened
 pub mod Started
+pub mod Signing

@@ -1,10 +1,11 @@
 -- What a contract sees of a replica's log.
-use Rattle.std.specs.Prelude.{ℕ, Bool, false, List, []}
+use Rattle.std.specs.Prelude.{◌≡◌, ℕ, Bool, false, List, []}
 use Rattle.fab_base.specs.Limits.{Roster}
 use Rattle.fab_base.specs.declared.ids.ReplicaId.{ReplicaId}
 use Rattle.bft_verify.specs.Ring.{Ring}
 use Rattle.run_words.specs.Journal.{Maker}
 use Rattle.run_words.specs.declared.logs.Entry.{Entry}
+use Rattle.run_words.specs.declared.party.Told.{Told}
 
 -- whose it is, its members and keys, its entries, whether it is shut, and its signer
 pub record Log (S : Type 0) : Type 0 where
@@ -28,3 +29,8 @@ made_of limit gives log = record {
 -- a log that has done nothing yet
 abbrev pub fresh_log : {S : Type 0} → Roster → Ring → ReplicaId → S → Log S
 fresh_log roster ring me signer = record { me = me; roster = roster; ring = ring; journal = []; shut = false; signer = signer }
+
+-- a leaf is used for what is sent alone: whatever else is told, a refusal of memory too, the signer is what it was
+abbrev pub KeepsSigner : {S : Type 0} → Told → S → S → Type 0
+KeepsSigner (Told.Out parcels) old now = Unit {0}
+KeepsSigner told old now = now ≡ old

@@ -3,6 +3,7 @@ ghost use Rattle.std.specs.Prelude.{◌≡◌, IfOk, OnErr, IsTrue};
 ghost use Rattle.std.specs.Result.{is_ok};
 ghost use Rattle.run_words.specs.Acts.{IsFor};
 ghost use Rattle.replica_log.specs.Acting.{told_by, told_anyway};
+ghost use Rattle.replica_log.specs.Logs.{KeepsSigner};
 ghost use Rattle.replica_log.specs.Keeping.{maker_of, Keeps, IsLive, Stays, HasActed, MayBeTold, IsEmit};
 
 use crate::entering::NewEntry;
@@ -43,6 +44,7 @@ impl<S: Signer + Drop> Keeper<S> {
         ensures may { IfOk result (λ told. MayBeTold act told) }
         ensures stays { OnErr result (Stays S.limit S.made S.gives self.old self.new) }
         ensures emits { IsEmit act → IsTrue (is_ok result) }
+        ensures signer { KeepsSigner (told_anyway result) self.old.signer self.new.signer }
     {
         match act {
             Act::Hear(origin, heard) => told(self.hear(origin, heard)),

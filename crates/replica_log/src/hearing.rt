@@ -65,6 +65,7 @@ impl<S: Signer + Drop> Keeper<S> {
         ensures answer { IfOk result (λ answer. answer ≡ answer_to (maker_of S.limit S.gives self.old) self.old.journal.items (machine.Event.Hear heard.message)) }
         ensures enters { OnOk result (Enters S.limit S.made S.gives self.old hearing.entry self.new) }
         ensures stays { OnErr result (Stays S.limit S.made S.gives self.old self.new) }
+        ensures signer { self.new.signer ≡ self.old.signer }
     {
         let event = Event::Hear(heard.into_shaped());
         let answer = enter(&mut self.core, &mut self.journal, event, hearing.entry);
@@ -81,6 +82,7 @@ impl<S: Signer + Drop> Keeper<S> {
         ensures answer { IfOk result (λ answer. answer ≡ answer_to (maker_of S.limit S.gives self.old) self.old.journal.items (machine.Event.Hear heard.message)) }
         ensures enters { OnOk result (Enters S.limit S.made S.gives self.old (entries.Entry.Heard origin heard.message) self.new) }
         ensures stays { OnErr result (Stays S.limit S.made S.gives self.old self.new) }
+        ensures signer { self.new.signer ≡ self.old.signer }
     {
         match prepared(self.clock, &mut self.journal, origin, &heard) {
             Ok(hearing) => self.take(hearing, heard),

@@ -21,6 +21,7 @@ impl<S: Signer + Drop> Keeper<S> {
         ensures answer { IfOk result (λ answer. answer ≡ answer_to (maker_of S.limit S.gives self.old) self.old.journal.items (event_of event)) }
         ensures moves { IfOk result (λ answer. Moves S.limit S.made S.gives self.old entry (makes_entry answer) self.new) }
         ensures stays { OnErr result (Stays S.limit S.made S.gives self.old self.new) }
+        ensures signer { self.new.signer ≡ self.old.signer }
     {
         if self.journal.reserve(1).is_err() {
             drop(event);

@@ -12,7 +12,7 @@ use lms_tree::Signer;
 use run_words::{Act, Mover, Party, Told, Trace};
 
 impl<S: Signer + Drop> Party for ReplicaLog<S> {
-    ghost use Rattle.replica_log.specs.Logs.{made_of};
+    ghost use Rattle.replica_log.specs.Logs.{made_of, KeepsSigner};
 
     ghost made = { made_of S.limit S.gives };
 
@@ -31,7 +31,15 @@ impl<S: Signer + Drop> Party for ReplicaLog<S> {
         self.keeper.moves(mover)
     }
 
-    fn act(&mut self, act: Act) -> Told {
+    /// What the trait says of an act, and beside it: a leaf of the key is used only for what is sent. Whatever else is told, of a refused Emit
+    /// too, the signer is what it was (`signer`).
+    fn act(&mut self, act: Act) -> Told
+        requires { IsFor (made_of S.limit S.gives self.old) act }
+        ensures made { made_of S.limit S.gives self.new ≡ made_of S.limit S.gives self.old }
+        ensures acted { Acted (made_of S.limit S.gives self.old) self.old.journal act result self.new.journal }
+        ensures open { StaysOpen act result self.old.shut self.new.shut }
+        ensures signer { KeepsSigner result self.old.signer self.new.signer }
+    {
         if self.shut {
             drop(act);
             return Told::NoMemory;

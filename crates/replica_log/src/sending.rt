@@ -5,6 +5,8 @@ ghost use Rattle.fab_machine.specs.Step.{first};
 ghost use Rattle.run_words.specs.Journal.{moves, entry_of};
 ghost use Rattle.run_words.specs.Acts.{told_of_emit};
 ghost use Rattle.run_words.specs.declared.movers.Mover.{Mover};
+ghost use Rattle.replica_log.specs.Acting.{told_anyway};
+ghost use Rattle.replica_log.specs.Logs.{KeepsSigner};
 ghost use Rattle.replica_log.specs.Keeping.{maker_of, Keeps, IsLive, IsLiveThen, Enters, Moves};
 ghost use Rattle.parcel_post.specs.Posting.{sent_with};
 ghost use Rattle.replica_log.specs.Sending.{Waits, content_in, receivers_in, sent_in, after_sending, parcels_next, ArePacked, IsSealed};
@@ -150,6 +152,7 @@ impl<S: Signer + Drop> Keeper<S> {
         ensures enters { OnOk result (Enters S.limit S.made S.gives self.old
             (entry_of (maker_of S.limit S.gives self.old) self.old.journal.items Mover.Emit) self.new) }
         ensures err { OnErr result (IsLiveThen S.limit S.made S.gives self.old self.old.journal.items self.new) }
+        ensures refused { OnErr result (self.new.signer ≡ self.old.signer) }
     {
         let out = self.outgoing()?;
         let sig = sign(
@@ -177,6 +180,7 @@ impl<S: Signer + Drop> Keeper<S> {
             (entry_of (maker_of S.limit S.gives self.old) self.old.journal.items Mover.Emit)
             (moves (maker_of S.limit S.gives self.old) self.old.journal.items Mover.Emit) self.new) }
         ensures err { OnErr result (IsLiveThen S.limit S.made S.gives self.old self.old.journal.items self.new) }
+        ensures signer { KeepsSigner (told_anyway result) self.old.signer self.new.signer }
     {
         if !has_first(&self.core) {
             return Ok(Told::Core(Answer::Nothing));
