@@ -1,22 +1,18 @@
 -- At any moment of a cluster in which nobody fails: what its primary holds and what it has a certificate of, it proposed.
-use Rattle.std.proofs.Common.{◌≡◌, ℕ, ◌+◌, ◌<◌, List, [], ◌∷◌, ◌++◌, map, length, length-append, Some, ◌⊎◌, inl, inr, refl, sym, ap, subst, ◌∙◌, arith}
+use Rattle.std.proofs.Common.{◌≡◌, ℕ, ◌<◌, List, [], ◌∷◌, ◌++◌, map, length, length-append, ◌⊎◌, inl, inr, refl, sym, ap, subst, ◌∙◌, arith}
 use Rattle.std.proofs.lemmas.List.{map-append}
 use Rattle.fab_base.specs.Limits.{Roster}
 use Rattle.fab_base.specs.Roster.{size_of}
 use Rattle.fab_base.specs.declared.ids.Hash32.{Hash32}
 use Rattle.fab_base.specs.declared.requests.Request.{Request}
 use Rattle.fab_base.specs.declared.messages.PrePrepare.{PrePrepare}
-use Rattle.fab_base.specs.declared.messages.CommitCert.{CommitCert}
 use Rattle.fab_base.specs.declared.messages.Message.{Message}
 use Rattle.fab_rules.specs.Lists.{In}
 use Rattle.fab_rules.specs.Digests.{batch_digest}
 use Rattle.fab_rules.specs.Diary.{Entry, Heard, Said, Did, BatchHeard}
 use Rattle.fab_rules.proofs.Lists.{in_append_left, in_append_right}
-use Rattle.pbft_slots.specs.declared.slot.Proposal.{Proposal}
-use Rattle.pbft_slots.specs.Window.{proposal_at}
 use Rattle.fab_machine.specs.State.{Proposed, Replica}
 use Rattle.fab_machine.specs.Items.{vote_of}
-use Rattle.fab_machine.specs.Rounds.{certificate_for}
 use Rattle.fab_machine.specs.Relation.{IsBatchKnown}
 use Rattle.fab_machine.proofs.Blocks.{is_for}
 use Rattle.heed_laws.specs.Fronts.{GoOn}
@@ -24,7 +20,7 @@ use Rattle.heed_laws.specs.Resting.{member, IsVoiced}
 use Rattle.heed_laws.specs.Signatures.{proposal_slot, said_of}
 use Rattle.heed_laws.proofs.Opened.{IsHeardOf, heard_by_prepare, certified_of}
 use Rattle.heed_laws.proofs.Signatures.{opened_below}
-use Rattle.budget_laws.specs.Proposals.{batch_in, proposals_said, stamps_said, IsThrifty}
+use Rattle.budget_laws.specs.Proposals.{batch_in, proposals_said, IsThrifty}
 use Rattle.budget_laws.proofs.Orders.{stamps_in, numbered, batches_numbered}
 use Rattle.budget_laws.proofs.Thrift.{length_numbered, turn_of, order_in, orders_said, IsInTurn, AreOrdered, expected_in_turn}
 

@@ -1,8 +1,8 @@
 -- Lists of stamps and of proposals: what goes on, what is numbered, and what stands where.
-use Rattle.std.proofs.Common.{◌≡◌, ◌≢◌, ℕ, zero, suc, ◌+◌, ◌≤◌, ◌<◌, Bool, true, false, cond, max, nat_eq, nat_le, nat_lt, List, [], ◌∷◌, ◌++◌, map, filter, length, length-append, append_assoc, ◌⊎◌, inl, inr, refl, sym, ap, subst, ◌∙◌, arith}
+use Rattle.std.proofs.Common.{◌≡◌, ◌≢◌, ℕ, zero, suc, ◌+◌, ◌≤◌, ◌<◌, Bool, true, false, cond, max, nat_eq, nat_le, nat_lt, List, [], ◌∷◌, ◌++◌, map, filter, length, inl, inr, refl, sym, ap, subst, ◌∙◌, arith}
 use Rattle.std.specs.Prelude.{slice_index}
 use Rattle.std.specs.List.{flat_map}
-use Rattle.std.proofs.lemmas.Bool.{cases_lt, cases_eq}
+use Rattle.std.proofs.lemmas.Bool.{cases_lt}
 use Rattle.std.proofs.lemmas.Bool.Decides.{nat_tests}
 use Rattle.std.proofs.lemmas.Grind.{flat_map-append}
 use Rattle.std.proofs.lemmas.List.{map-append}
@@ -10,9 +10,9 @@ use Rattle.std.proofs.lemmas.List.Elements.{filter-append}
 use Rattle.fab_base.specs.Table.{State, last_of, with_stamp, entries_after, state_after, state_after_all}
 use Rattle.fab_base.specs.declared.requests.Request.{Request}
 use Rattle.fab_base.proofs.Stamps.{slice_index-with_stamp}
-use Rattle.fab_base.proofs.Tests.{same, below, is_below}
+use Rattle.fab_base.proofs.Tests.{same, is_below}
 use Rattle.fab_rules.specs.Lists.{In, greatest}
-use Rattle.fab_rules.proofs.Lists.{in_append_left, in_append_right, in_append_cases, le_greatest, in_flat_map}
+use Rattle.fab_rules.proofs.Lists.{in_append_left, in_append_right, in_append_cases, le_greatest}
 use Rattle.fab_machine.specs.State.{Proposed}
 use Rattle.fab_machine.specs.Proposing.{stamps_of}
 use Rattle.heed_laws.specs.Fronts.{GoOn}

@@ -1,5 +1,5 @@
 -- A primary wastes nothing: what it proposed, event by event.
-use Rattle.std.proofs.Common.{◌≡◌, ℕ, zero, suc, ◌+◌, ◌-◌, ◌%◌, ◌≤◌, ◌<◌, Bool, true, false, not, cond, max, nat_eq, nat_lt, List, [], ◌∷◌, ◌++◌, map, filter, take, drop, length, length-append, append_assoc, append-nil, Option, Some, None, Result, Ok, Err, ◌⊎◌, inl, inr, refl, sym, ap, subst, ◌∙◌, arith}
+use Rattle.std.proofs.Common.{◌≡◌, ℕ, zero, suc, ◌+◌, ◌-◌, ◌≤◌, ◌<◌, Bool, true, false, not, cond, max, nat_eq, nat_lt, List, [], ◌∷◌, ◌++◌, filter, take, drop, length, length-append, append_assoc, append-nil, Option, Some, None, Result, Ok, Err, inl, inr, refl, sym, ap, subst, ◌∙◌, arith}
 use Rattle.std.specs.Prelude.{slice_index}
 use Rattle.std.specs.List.{slice_get, flat_map}
 use Rattle.std.specs.Option.{option_and_then}
@@ -18,11 +18,9 @@ use Rattle.fab_base.specs.declared.messages.Message.{Message}
 use Rattle.fab_base.specs.declared.answers.Answer.{Answer}
 use Rattle.fab_base.specs.declared.answers.Item.{Item}
 use Rattle.fab_base.specs.declared.answers.Take.{Take}
-use Rattle.fab_base.proofs.Tests.{below}
 use Rattle.fab_rules.specs.declared.blocks.Block.{Block}
 use Rattle.fab_rules.specs.Lists.{In, greatest}
 use Rattle.fab_rules.specs.Digests.{batch_digest}
-use Rattle.fab_rules.specs.Statements.{signer_of, unsigned}
 use Rattle.fab_rules.specs.Diary.{Entry, Heard, Said, Did}
 use Rattle.fab_rules.specs.Growth.{after_saying}
 use Rattle.fab_rules.specs.Ledger.{RunBlock, start_of, state_after_blocks}
@@ -35,7 +33,7 @@ use Rattle.pbft_slots.specs.Window.{Window, slot_by, slot_at, proposal_at, after
 use Rattle.pbft_slots.proofs.Places.{place_open}
 use Rattle.checkpoint_core.specs.Checkpoints.{vote_answer, after_vote}
 use Rattle.fab_machine.specs.State.{Proposed, Due, Local, Replica}
-use Rattle.fab_machine.specs.Items.{is_own, statements_by, statements_in, proposal_of, cluster_of}
+use Rattle.fab_machine.specs.Items.{statements_by, statements_in, proposal_of, cluster_of}
 use Rattle.fab_machine.specs.Voting.{Told, unmoved, newly_prepared, keep_prepared, after_count, vote_refusal, proposal_told, prepare_told, commit_told, proposal_by, prepare_by, commit_by}
 use Rattle.fab_machine.specs.Hearing.{hear}
 use Rattle.fab_machine.specs.Proposing.{stamps_of, proposed_stamps, batch_of_slot, held_stamps, expected, eligible, proposed, propose}
@@ -291,9 +289,6 @@ module _ (r : Roster) where
   propose_in_turn s diary nudged known rel o fine =
       propose_cases (λ t. IsFine (after_told s t).state diary) r me s.local nudged known (λ a. fine) (λ room. new)
     where
-      batch : List Request
-      batch = take r.batch (eligible s.local)
-
       new : IsFine (after_told s (proposed r me s.local (take r.batch (eligible s.local)))).state diary
       new =
           let b = take r.batch (eligible s.local) in
