@@ -285,9 +285,11 @@ module _ (script : Script) (limits : keeps_limits script ≡ true) (one : length
                   omega (arith, done, next_is, go_below 1 now (length before) goes_on there))
             ]
             | inr left ↦ (let quiet : IsStill (at_step script n) =
-                record { all_heard = heard_then rules (after rules n) (sane script limits) (well n) still;
+                record {
+                  all_heard = heard_then rules (after rules n) (sane script limits) (well n) still;
                   sent = sent_then rules (after rules n) (sane script limits) (well n) still;
-                  idle = idle_then rules (after rules n) (sane script limits) (well n) still } in
+                  idle = idle_then rules (after rules n) (sane script limits) (well n) still;
+                } in
                 let last = last_eligible (t n) (run n) one some quiet (unspent n none filled) (clean n none) c lt left in
                 let there = stamps_among c (count_of c script.requests) (eligible (state_at (t n) 0).local) (requests_said (full_at (t (suc n)) 0)) (λ x h. among x (inr h)) last in
                 omega (arith, go_below 1 now (count_of c script.requests) goes_on there))
