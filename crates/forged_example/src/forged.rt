@@ -8,7 +8,7 @@ ghost use Rattle.run_worlds.specs.Endings.{IsOfLogs};
 use crate::forging::{VICTIM, forged_bytes};
 use crate::hearing::hear_at;
 use crate::leaving::leave_all;
-use crate::starting::{Start, fresh_start};
+use crate::starting::fresh_start;
 use crate::stops::Stop;
 use bft_verify::verify;
 use fault_script::Script;
@@ -23,14 +23,12 @@ fn traces_with(alloc: Global, script: &Script, bytes: &[u8]) -> Result<Traces, S
     requires { keeps_limits script.now ≡ true }
     ensures { IfOk result (λ traces. AreEach Kept (makers_of script.now) traces) }
 {
-    let Start {
-        members,
-        ring,
-        mut logs,
-    } = fresh_start(alloc, script)?;
-    let heard = verify(alloc, &members, &ring, bytes)?;
+    let start = fresh_start(alloc, script)?;
+    let heard = verify(alloc, &start.members, &start.ring, bytes)?;
+    let mut logs = start.into_logs();
     if logs.len() <= HEARER {
         drop(heard);
+        drop(logs);
         return Err(Stop::TooFew);
     }
     hear_at(&mut logs, HEARER, VICTIM, heard)?;
