@@ -1,5 +1,5 @@
 -- Logs that stand go on standing when one of them hears what was let in for it.
-use Rattle.std.proofs.Common.{◌≡◌, ℕ, zero, suc, ◌<◌, Bool, false, List, [], ◌∷◌, ◌++◌, map, length, get_or, refl, sym, subst, ◌∙◌, arith, Result, Ok, Err, OnOk}
+use Rattle.std.proofs.Common.{◌≡◌, ℕ, zero, suc, ◌<◌, Bool, false, List, [], ◌∷◌, ◌++◌, map, length, take, get_or, refl, sym, ap, subst, ◌∙◌, arith, Result, Ok, Err, OnOk}
 use Rattle.std.specs.List.{All}
 use Rattle.std.proofs.Math.ListN.{set}
 use Rattle.fab_base.specs.Limits.{Roster}
@@ -21,7 +21,7 @@ use Rattle.run_worlds.specs.Scripts.{roster_of, maker_of, makers_of}
 use Rattle.script_keys.specs.Keys.{replicas_of}
 use Rattle.script_keys.specs.Rings.{ring_of}
 use Rattle.script_sim.specs.Schedules.{log_of, logs_of}
-use Rattle.forged_example.specs.Standing.{maker_in, IsStanding, AreStanding, IsForLog, IsEntered}
+use Rattle.forged_example.specs.Standing.{maker_in, IsStanding, AreStanding, IsForLog}
 
 -- ---- before anything was heard
 
@@ -48,21 +48,21 @@ for_all script heard members ring logs m r n s e =
 -- ---- one hearing
 
 -- where memory isn't refused there is an entry
-grown : (m : Maker) (journal : List Entry) (origin : Origin) (heard : Admitted) (told : Told) (now : List Entry) → IsEntered told
+grown : (m : Maker) (journal : List Entry) (origin : Origin) (heard : Admitted) (told : Told) (now : List Entry) → (told ≡ Told.NoMemory → ⊥)
     → Acted m journal (Act.Hear origin heard) told now → now ≡ journal ++ Entry.Heard origin heard.message ∷ []
-grown m journal origin heard Told.NoMemory now n a = absurd n
+grown m journal origin heard Told.NoMemory now n a = absurd (n refl)
 grown m journal origin heard (Told.Core answer) now n a = a.grows
 grown m journal origin heard (Told.Out parcels) now n a = a.grows
 grown m journal origin heard (Told.KeySpent used) now n a = a.grows
 
 -- and the log stays open
-still_open : (act : Act) (told : Told) (before now : Bool) → IsEntered told → StaysOpen act told before now → now ≡ false
-still_open act Told.NoMemory before now n a = absurd n
+still_open : (act : Act) (told : Told) (before now : Bool) → (told ≡ Told.NoMemory → ⊥) → StaysOpen act told before now → now ≡ false
+still_open act Told.NoMemory before now n a = absurd (n refl)
 still_open act (Told.Core answer) before now n a = a.1
 still_open act (Told.Out parcels) before now n a = a.1
 still_open act (Told.KeySpent used) before now n a = a.1
 
-stands : (was now : Log Leaves) (origin : Origin) (heard : Admitted) (told : Told) → IsEntered told
+pub stands : (was now : Log Leaves) (origin : Origin) (heard : Admitted) (told : Told) → (told ≡ Told.NoMemory → ⊥)
     → maker_in now ≡ maker_in was → Acted (maker_in was) was.journal (Act.Hear origin heard) told now.journal
     → StaysOpen (Act.Hear origin heard) told was.shut now.shut → IsForLog heard was → IsSound heard.members heard.ring heard.message
     → (m : Maker) → IsStanding m was → IsStanding m now
@@ -80,15 +80,24 @@ stands was now origin heard told n same acted opened own sound m s =
       sound = subst (λ (l : List Entry). AreSound m l) (sym e) (sound_more m was.journal entry s.sound let_in);
     }
 
--- where it was entered
-pub stands_where : {A E : Type 0} (r : Result A E) (was now : Log Leaves) (origin : Origin) (heard : Admitted) (told : Told) → OnOk r (IsEntered told)
-    → maker_in now ≡ maker_in was → Acted (maker_in was) was.journal (Act.Hear origin heard) told now.journal
-    → StaysOpen (Act.Hear origin heard) told was.shut now.shut → IsForLog heard was → IsSound heard.members heard.ring heard.message
-    → OnOk r ((m : Maker) → IsStanding m was → IsStanding m now)
-stands_where (Err e) was now origin heard told n same acted opened own sound = tt
-stands_where (Ok a) was now origin heard told n same acted opened own sound = stands was now origin heard told n same acted opened own sound
+-- what holds anyway holds where a call succeeds; where it fails nothing is said
+pub on_ok : {A E : Type 0} (told : Result A E) (P : Type 0) → P → OnOk told P
+on_ok (Ok a) P p = p
+on_ok (Err e) P p = tt
+
+pub on_err : {A E : Type 0} (told : Result A E) (e : E) (P : Type 0) → told ≡ Err e → OnOk told P
+on_err (Ok a) e P is = absurd cc
+on_err (Err x) e P is = tt
 
 -- ---- at a place
+
+take_front : {X : Type 0} (xs ys : List X) → take (length xs) (xs ++ ys) ≡ xs
+take_front [] ys = refl
+take_front (x ∷ xs) ys = ap (λ l. x ∷ l) (take_front xs ys)
+
+-- what a `Vec` is once the call is over that had it as a slice
+pub put_back : {X : Type 0} (n : ℕ) (xs ys : List X) → n ≡ length xs → take n (xs ++ ys) ≡ xs
+put_back n xs ys e = ap (λ k. take k (xs ++ ys)) e ∙ take_front xs ys
 
 stand_at : (makers : List Maker) (logs : List (Log Leaves)) (place : ℕ) (d now : Log Leaves)
     → ((m : Maker) → IsStanding m (get_or logs place d) → IsStanding m now) → AreStanding makers logs → AreStanding makers (set logs place now)

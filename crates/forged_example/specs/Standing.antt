@@ -6,7 +6,6 @@ use Rattle.lms_leaf.specs.Leaves.{Leaves}
 use Rattle.bft_verify.specs.Admitted.{Admitted}
 use Rattle.replica_log.specs.Logs.{Log, made_of}
 use Rattle.run_words.specs.Journal.{Maker, IsMade, AreSound}
-use Rattle.run_words.specs.declared.party.Told.{Told}
 
 -- what a log was made with
 abbrev pub maker_in : Log Leaves → Maker
@@ -28,8 +27,3 @@ AreStanding (m ∷ makers) [] = ⊥
 -- the message was let in for the log's own members and keys
 abbrev pub IsForLog : Admitted → Log Leaves → Type 0
 IsForLog heard log = (heard.members ≡ log.roster) × (heard.ring ≡ log.ring)
-
--- memory wasn't refused
-abbrev pub IsEntered : Told → Type 0
-IsEntered Told.NoMemory = ⊥
-IsEntered told = Unit {0}

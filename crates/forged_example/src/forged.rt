@@ -8,7 +8,7 @@ ghost use Rattle.run_worlds.specs.Endings.{IsOfLogs};
 use crate::forging::{VICTIM, forged_bytes};
 use crate::hearing::hear_at;
 use crate::leaving::leave_all;
-use crate::starting::fresh_start;
+use crate::starting::{Start, fresh_start};
 use crate::stops::Stop;
 use bft_verify::verify;
 use fault_script::Script;
@@ -23,12 +23,14 @@ fn traces_with(alloc: Global, script: &Script, bytes: &[u8]) -> Result<Traces, S
     requires { keeps_limits script.now ≡ true }
     ensures { IfOk result (λ traces. AreEach Kept (makers_of script.now) traces) }
 {
-    let start = fresh_start(alloc, script)?;
-    let heard = verify(alloc, &start.members, &start.ring, bytes)?;
-    let mut logs = start.into_logs();
+    let Start {
+        members,
+        ring,
+        mut logs,
+    } = fresh_start(alloc, script)?;
+    let heard = verify(alloc, &members, &ring, bytes)?;
     if logs.len() <= HEARER {
         drop(heard);
-        drop(logs);
         return Err(Stop::TooFew);
     }
     hear_at(&mut logs, HEARER, VICTIM, heard)?;
@@ -36,7 +38,7 @@ fn traces_with(alloc: Global, script: &Script, bytes: &[u8]) -> Result<Traces, S
 }
 
 /// What the logs of a script's replicas leave behind, of which 1.1's heard a Prepare that 1.2's key signed and that 1.2's log never said. It
-/// is a transcript that logs may hold: nothing in it but that hearing needs another than the replicas' own steps.
+/// is a transcript that logs may hold.
 pub(crate) fn forged_transcript(alloc: Global, script: Script) -> Result<Transcript, Stop>
     requires { keeps_limits script ≡ true }
     ensures script { IfOk result (λ transcript. transcript.script ≡ script) }

@@ -26,17 +26,6 @@ pub(crate) struct Start {
     pub(crate) logs: Vec<ReplicaLog<LeafSigner>>,
 }
 
-impl Start {
-    /// The logs alone.
-    pub(crate) fn into_logs(self) -> Vec<ReplicaLog<LeafSigner>>
-        ensures { result.items ≡ self.logs.items }
-    {
-        drop(self.members);
-        drop(self.ring);
-        self.logs
-    }
-}
-
 /// The logs of a script's replicas, which have done nothing yet.
 pub(crate) fn fresh_start(alloc: Global, script: &Script) -> Result<Start, NoMemory>
     requires { keeps_limits script.now ≡ true }
