@@ -1,4 +1,5 @@
 pub mod Inside
 pub mod Judged
+pub mod Judging
 pub mod Passing
 pub mod Ready

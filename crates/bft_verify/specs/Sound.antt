@@ -9,6 +9,7 @@ use Rattle.fab_rules.specs.Lists.{In, first_of}
 use Rattle.fab_rules.specs.Spelling.{content_of}
 use Rattle.fab_rules.specs.Format.{fits}
 use Rattle.fab_rules.specs.Statements.{signer_of, parts_of}
+pub use Rattle.fab_rules.specs.Statements.{signature_of}
 use Rattle.fab_rules.specs.Shape.{misfits, numbered}
 use Rattle.lms_tree.specs.declared.public.Public.{Public}
 use Rattle.lms_tree.specs.declared.faults.SigFault.{SigFault}
@@ -18,20 +19,6 @@ use Rattle.bft_verify.specs.declared.refusals.Refusal.{Refusal}
 use Rattle.bft_verify.specs.Ring.{Ring, key_of}
 
 -- ---- signatures
-
-abbrev pub signature_of : Message → List ℕ
-signature_of (Message.Request x) = x.sig
-signature_of (Message.PrePrepare x) = x.sig
-signature_of (Message.Prepare x) = x.sig
-signature_of (Message.Commit x) = x.sig
-signature_of (Message.Checkpoint x) = x.sig
-signature_of (Message.ViewChange x) = x.sig
-signature_of (Message.NewView x) = x.sig
-signature_of (Message.Drvc x) = x.sig
-signature_of (Message.Rvc x) = x.sig
-signature_of (Message.ReplyNote x) = x.sig
-signature_of (Message.Share x) = []
-signature_of (Message.Fetch x) = []
 
 -- the verdict on a signature (RFC 8554, section 5.4.2). None is valid of a signer who has no key
 abbrev pub verdict_under : Option Public → List ℕ → List ℕ → Result (Unit {0}) SigFault

@@ -5,6 +5,18 @@
 //! ask for the shape alone. Whatever isn't sound is answered by its first [`Refusal`]. A [`Keyring`] has the public keys of the replicas
 //! and clients, and [`keyring`] makes it.
 //!
+//! A run reads the bytes of a copy so, and keeps the refusal of those that aren't sound:
+//!
+//! ```text
+//! match verify(self.alloc, self.members, self.ring, load) {
+//!     Ok(verified) => Ok(Ok(verified)),
+//!     Err(Refusal::NoMemory) => Err(NoMemory),
+//!     Err(refusal) => Ok(Err(refusal)),
+//! }
+//! ```
+//!
+//! Whoever gets a [`Verified`] from elsewhere asks [`Verified::is_for`] whether it was looked at for the own members and keys.
+//!
 //! What is sound, and what is refused in which order, stands in `specs/Sound`, the keys in `specs/Ring`, and what is answered to bytes
 //! in `specs/Answers`. [`sound_law`] says what soundness means: the message is shaped, and each part of it that somebody signs bears a
 //! valid signature of its own (RFC 8554) under its signer's key. No part is passed over because it stands inside another that was
@@ -14,8 +26,8 @@
 //! content is written once and its signature checked once. No call recurses over what came from outside, and memory is taken only
 //! for what the bytes at hand fill: the message, and the content of one part at a time.
 //!
-//! Modules: `ring` has the keys and `making` their making, `refusals` the answers, `signatures` the question that the walk over the
-//! parts asks, `verifying` the call, `verified` what comes of it, `laws` the law.
+//! Modules: `ring` has the keys and `making` their making, `refusals` the answers, `signatures` the judge of the signed parts,
+//! `verifying` the call, `verified` what comes of it, `laws` the law.
 #![tactic(auto)]
 
 mod laws;

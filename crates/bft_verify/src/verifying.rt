@@ -11,7 +11,7 @@ use crate::refusals::Refusal;
 use crate::ring::Keyring;
 use crate::signatures::Signatures;
 use crate::verified::Verified;
-use bft_msg::{decode, shape, walk};
+use bft_msg::{decode, judge_parts, shape};
 use fab_base::{Members, Message};
 use std::alloc::Global;
 
@@ -31,7 +31,7 @@ fn admit(
         Ok(shaped) => shaped,
         Err((misfit, _message)) => return Err(Refusal::from(misfit)),
     };
-    walk(&Signatures { alloc, ring }, shaped.message())?;
+    judge_parts(alloc, &Signatures { ring }, shaped.message())?;
     Ok(Verified::new(shaped, ring.share()?))
 }
 

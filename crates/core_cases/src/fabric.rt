@@ -1,10 +1,8 @@
 //! All replicas of a fabric.
-use crate::limits::is_within_limits;
 use crate::node::{Node, Seat, Turn, letter, take};
 use crate::words::{Text, Unanswered, at, plain, small, smalls};
 use fab_base::{
-    Duplicate, Item, MOST_CLUSTERS, MOST_MEMBERS, Members, Message, ReplicaId, Request, Who,
-    members,
+    Duplicate, Item, Members, Message, ReplicaId, Request, Who, is_within_limits, members,
 };
 use replica_core::Answer;
 use std::alloc::Global;
@@ -34,7 +32,7 @@ impl Fabric {
         let window = small(at(line, 3))?;
         let batch = small(at(line, 4))?;
         let interval = interval(at(line, 5), window)?;
-        if !is_within_limits(&sizes, &homes, window, batch, interval) {
+        if !is_within_limits(&sizes, &homes, window, interval, batch) {
             return Err(Unanswered::Unreadable);
         }
         let members = members(alloc, &sizes, &homes, window, interval, batch)?;
@@ -44,14 +42,12 @@ impl Fabric {
     /// The fabric of these members.
     fn of(alloc: Global, members: Members) -> Result<Fabric, Unanswered> {
         let mut nodes = Vec::new(alloc);
-        for cluster in 1..=MOST_CLUSTERS {
-            for index in 0..MOST_MEMBERS {
+        for cluster in 1..=members.clusters() {
+            for index in 0..members.size(cluster) {
                 let id = ReplicaId { cluster, index };
-                if members.has(Who::Replica(id)) {
-                    let seat = Seat::new(alloc, &members, id)?;
-                    let mail = VecDeque::new(alloc);
-                    nodes.push(Node { id, seat, mail })?;
-                }
+                let seat = Seat::new(alloc, &members, id)?;
+                let mail = VecDeque::new(alloc);
+                nodes.push(Node { id, seat, mail })?;
             }
         }
         Ok(Fabric {

@@ -44,7 +44,6 @@ mod answers;
 mod declared;
 mod desk;
 mod fabric;
-mod limits;
 mod looking;
 mod messages;
 mod node;

@@ -1,5 +1,6 @@
 -- Questions about who takes part in a fabric (ours).
-use Rattle.std.specs.Prelude.{ℕ, ◌-◌, ◌&&◌, nat_le, nat_lt, Bool, length, slice_index}
+use Rattle.std.specs.Prelude.{ℕ, ◌-◌, ◌&&◌, nat_le, nat_lt, Bool, List, length, map, slice_index}
+use Rattle.std.specs.List.{range_with_len}
 use Rattle.fab_base.specs.Limits.{Roster}
 use Rattle.fab_base.specs.declared.ids.ReplicaId.{ReplicaId}
 use Rattle.fab_base.specs.declared.ids.ClientId.{ClientId}
@@ -26,3 +27,7 @@ is_replica r i = is_cluster r i.cluster && nat_lt i.index (size_of r i.cluster)
 abbrev pub takes_part : Roster → Who → Bool
 takes_part r (Replica i) = is_replica r i
 takes_part r (Client client) = is_client r client
+
+-- the members of a cluster of this size, by index
+abbrev pub members_of : ℕ → ℕ → List ReplicaId
+members_of cluster size = map (λ index. record { cluster = cluster; index = index }) (range_with_len 0 size)

@@ -1,10 +1,11 @@
 //! Who takes part: the clusters, their sizes, the homes of the clients, and the settings that all replicas share.
-ghost use Rattle.std.specs.Prelude.{◌≡◌, ◌<◌, ◌≤◌, length, IfOk, IsTrue, slice_index};
+ghost use Rattle.std.specs.Prelude.{◌≡◌, ◌↔◌, ◌<◌, ◌≤◌, length, IfOk, IsTrue, slice_index};
 
 use crate::NoMemory;
-use crate::ids::{ClientId, Who};
-use crate::limits::{MOST_MEMBERS, MOST_REQUESTS, MOST_SLOTS};
-use fab_rows::Bytes;
+use crate::ids::{ClientId, ReplicaId, Who};
+use crate::limits::{MOST_CLIENTS, MOST_MEMBERS, MOST_REQUESTS, MOST_SLOTS};
+use crate::listing::put_members;
+use fab_rows::{Bytes, Rows};
 use std::alloc::Global;
 use std::marker::Model;
 use std::sync::Arc;
@@ -47,7 +48,7 @@ impl Model for Members {
 
 impl Members {
     ghost use Rattle.fab_base.specs.Limits.{Roster, IsWithinLimits};
-    ghost use Rattle.fab_base.specs.Roster.{is_cluster, size_of, is_client, home_of, takes_part};
+    ghost use Rattle.fab_base.specs.Roster.{is_cluster, size_of, is_client, home_of, members_of, takes_part};
 
     /// A handle to these contents, which it takes memory for.
     pub(crate) fn new(
@@ -81,6 +82,18 @@ impl Members {
         })
     }
 
+    /// Whether both are handles to equal members and settings, by value. Takes no memory.
+    pub fn is_same(&self, other: &Members) -> bool
+        ensures { IsTrue result ↔ (self.now ≡ other.now) }
+    {
+        let (contents, others) = (&*self.inner, &*other.inner);
+        contents.sizes.as_slice() == others.sizes.as_slice()
+            && contents.homes.as_slice() == others.homes.as_slice()
+            && contents.window == others.window
+            && contents.interval == others.interval
+            && contents.batch == others.batch
+    }
+
     /// The number of clusters, from 0 to 6. They are numbered from 1.
     pub fn clusters(&self) -> u8
         ensures is { result ≡ length self.now.sizes }
@@ -98,6 +111,25 @@ impl Members {
     {
         let contents = &*self.inner;
         contents.sizes.as_slice()[cluster as usize - 1]
+    }
+
+    /// The members of a cluster, by rising index: 1 to 10. It fails only where memory is refused.
+    pub fn replicas(&self, alloc: Global, cluster: u8) -> Result<Rows<ReplicaId>, NoMemory>
+        requires { IsTrue (is_cluster self.now cluster) }
+        ensures { IfOk result (λ replicas. replicas ≡ members_of cluster (size_of self.now cluster)) }
+    {
+        let mut replicas = Rows::new(alloc);
+        put_members(&mut replicas, cluster, self.size(cluster))?;
+        Ok(replicas)
+    }
+
+    /// The number of clients, from 0 to 64. They are numbered from 0.
+    pub fn clients(&self) -> u8
+        ensures is { result ≡ length self.now.homes }
+        ensures limits { result ≤ MOST_CLIENTS }
+    {
+        let contents = &*self.inner;
+        contents.homes.len() as u8
     }
 
     /// The home cluster of a client.

@@ -12,6 +12,7 @@ use Rattle.fab_base.specs.declared.messages.PrePrepare.{PrePrepare}
 use Rattle.fab_base.specs.declared.messages.Message.{Message}
 use Rattle.fab_base.specs.declared.answers.Item.{Item}
 use Rattle.fab_rules.specs.Statements.{signer_of, unsigned}
+pub use Rattle.fab_rules.specs.Statements.{with_sig}
 use Rattle.fab_rules.specs.Spelling.{content_of}
 use Rattle.fab_machine.specs.declared.outs.Out.{Out}
 
@@ -45,20 +46,6 @@ abbrev pub is_own : ReplicaId → Option Who → Bool
 is_own me None = false
 is_own me (Some (Who.Client c)) = false
 is_own me (Some (Who.Replica i)) = same_id i me
-
-abbrev pub with_sig : List ℕ → Message → Message
-with_sig sig (Message.Request x) = Message.Request (record x { sig = sig })
-with_sig sig (Message.PrePrepare x) = Message.PrePrepare (record x { sig = sig })
-with_sig sig (Message.Prepare x) = Message.Prepare (record x { sig = sig })
-with_sig sig (Message.Commit x) = Message.Commit (record x { sig = sig })
-with_sig sig (Message.Checkpoint x) = Message.Checkpoint (record x { sig = sig })
-with_sig sig (Message.ViewChange x) = Message.ViewChange (record x { sig = sig })
-with_sig sig (Message.NewView x) = Message.NewView (record x { sig = sig })
-with_sig sig (Message.Drvc x) = Message.Drvc (record x { sig = sig })
-with_sig sig (Message.Rvc x) = Message.Rvc (record x { sig = sig })
-with_sig sig (Message.ReplyNote x) = Message.ReplyNote (record x { sig = sig })
-with_sig sig (Message.Share x) = Message.Share x
-with_sig sig (Message.Fetch x) = Message.Fetch x
 
 -- the item as it is sent: with this signature where the replica itself signs the message, else as it waited
 abbrev pub sent_item : ReplicaId → List ℕ → Item → Item

@@ -1,5 +1,5 @@
 -- What messages say: their parts, who signs them, what is signed, and the batches in them.
-use Rattle.std.specs.Prelude.{◌++◌, List, [], ◌∷◌, map, Option, Some, None}
+use Rattle.std.specs.Prelude.{ℕ, ◌++◌, List, [], ◌∷◌, map, Option, Some, None}
 use Rattle.std.specs.Option.{is_some}
 use Rattle.std.specs.List.{filter, flat_map}
 use Rattle.fab_base.specs.declared.ids.Who.{Who}
@@ -37,6 +37,36 @@ unsigned (Message.Rvc x) = Message.Rvc (record x { sig = [] })
 unsigned (Message.ReplyNote x) = Message.ReplyNote (record x { sig = [] })
 unsigned (Message.Share x) = Message.Share x
 unsigned (Message.Fetch x) = Message.Fetch x
+
+-- the signature that a message bears: none, where nobody signs it
+abbrev pub signature_of : Message → List ℕ
+signature_of (Message.Request x) = x.sig
+signature_of (Message.PrePrepare x) = x.sig
+signature_of (Message.Prepare x) = x.sig
+signature_of (Message.Commit x) = x.sig
+signature_of (Message.Checkpoint x) = x.sig
+signature_of (Message.ViewChange x) = x.sig
+signature_of (Message.NewView x) = x.sig
+signature_of (Message.Drvc x) = x.sig
+signature_of (Message.Rvc x) = x.sig
+signature_of (Message.ReplyNote x) = x.sig
+signature_of (Message.Share x) = []
+signature_of (Message.Fetch x) = []
+
+-- the message with this signature, where somebody signs it
+abbrev pub with_sig : List ℕ → Message → Message
+with_sig sig (Message.Request x) = Message.Request (record x { sig = sig })
+with_sig sig (Message.PrePrepare x) = Message.PrePrepare (record x { sig = sig })
+with_sig sig (Message.Prepare x) = Message.Prepare (record x { sig = sig })
+with_sig sig (Message.Commit x) = Message.Commit (record x { sig = sig })
+with_sig sig (Message.Checkpoint x) = Message.Checkpoint (record x { sig = sig })
+with_sig sig (Message.ViewChange x) = Message.ViewChange (record x { sig = sig })
+with_sig sig (Message.NewView x) = Message.NewView (record x { sig = sig })
+with_sig sig (Message.Drvc x) = Message.Drvc (record x { sig = sig })
+with_sig sig (Message.Rvc x) = Message.Rvc (record x { sig = sig })
+with_sig sig (Message.ReplyNote x) = Message.ReplyNote (record x { sig = sig })
+with_sig sig (Message.Share x) = Message.Share x
+with_sig sig (Message.Fetch x) = Message.Fetch x
 
 -- ---- parts
 

@@ -4,6 +4,7 @@ use Rattle.std.specs.List.{list_any}
 use Rattle.std.specs.Option.{option_map}
 use Rattle.std.specs.Str.{bytes_eq}
 use Rattle.std.specs.Cmp.{nat_eq_equiv}
+use Rattle.fab_base.specs.declared.ids.ClientId.{ClientId}
 use Rattle.fab_base.specs.declared.ids.Who.{Who}
 use Rattle.fab_base.specs.declared.requests.Request.{Request}
 use Rattle.fab_base.specs.declared.messages.Message.{Message}
@@ -72,3 +73,24 @@ pub asked_by_client : (x : Request) (wishes : List Wish) → list_any (bytes_eq 
     ≡ list_any (λ w. nat_eq w.client.number x.client.number && bytes_eq (content_of (Message.Request x)) (asked_content w)) wishes
 asked_by_client x [] = refl
 asked_by_client x (w ∷ wishes) = λ i. of_client x w i || asked_by_client x wishes i
+
+-- the same of the content of any part that the client signs: it is a request
+pub asked_by_part : (p : Message) (c : ClientId) (content : List ℕ) (wishes : List Wish) → signer_of p ≡ Some (Who.Client c) → content_of p ≡ content
+    → list_any (bytes_eq content) (map asked_content wishes)
+    ≡ list_any (λ w. nat_eq w.client.number c.number && bytes_eq content (asked_content w)) wishes
+asked_by_part (Message.Request x) c content wishes of is =
+    let same : x.client ≡ c = cc in
+    ap (λ k. list_any (bytes_eq k) (map asked_content wishes)) (sym is) ∙ asked_by_client x wishes
+    ∙ ap (λ k. list_any (λ w. nat_eq w.client.number x.client.number && bytes_eq k (asked_content w)) wishes) is
+    ∙ ap (λ (k : ClientId). list_any (λ w. nat_eq w.client.number k.number && bytes_eq content (asked_content w)) wishes) same
+asked_by_part (Message.PrePrepare x) c content wishes of is = cc
+asked_by_part (Message.Prepare x) c content wishes of is = cc
+asked_by_part (Message.Commit x) c content wishes of is = cc
+asked_by_part (Message.Checkpoint x) c content wishes of is = cc
+asked_by_part (Message.ViewChange x) c content wishes of is = cc
+asked_by_part (Message.NewView x) c content wishes of is = cc
+asked_by_part (Message.Drvc x) c content wishes of is = cc
+asked_by_part (Message.Rvc x) c content wishes of is = cc
+asked_by_part (Message.ReplyNote x) c content wishes of is = cc
+asked_by_part (Message.Share x) c content wishes of is = cc
+asked_by_part (Message.Fetch x) c content wishes of is = cc

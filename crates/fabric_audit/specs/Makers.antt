@@ -4,6 +4,8 @@ use Rattle.std.specs.List.{list_any}
 use Rattle.std.specs.Str.{bytes_eq}
 use Rattle.std.specs.Map.{lookup}
 use Rattle.fab_base.specs.declared.ids.ReplicaId.{ReplicaId}
+use Rattle.fab_base.specs.declared.ids.Who.{Who}
+use Rattle.bft_msg.specs.Judging.{IsSignedPart}
 use Rattle.run_words.specs.Keyed.{is_same}
 use Rattle.run_words.specs.declared.logs.Transcript.{Transcript}
 use Rattle.run_worlds.specs.Sights.{is_signed_by}
@@ -22,3 +24,7 @@ has_signed signers i x = is_within (lookup (is_same i) signers) x
 pub record AreMakers (t : Transcript) (signers : List (ReplicaId × List (List ℕ))) (asked : List (List ℕ)) : Type 0 where
   pub signed : (i : ReplicaId) (x : List ℕ) → has_signed signers i x ≡ is_signed_by t.traces i x
   pub requests : (x : List ℕ) → list_any (bytes_eq x) asked ≡ list_any (bytes_eq x) (map asked_content t.script.requests)
+
+-- it is the content of a part that he signs
+abbrev pub IsOfPart : Who → List ℕ → Type 0
+IsOfPart who content = (signature : List ℕ) × IsSignedPart who content signature

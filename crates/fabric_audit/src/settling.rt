@@ -19,7 +19,8 @@ ghost use Rattle.fabric_audit.specs.Still.{is_still_at, is_still};
 
 use crate::cores::core_of;
 use crate::counting::{copies, plus, sent_by_all, taken};
-use fab_base::{Message, NoMemory, ReplicaId};
+use bft_msg::signer;
+use fab_base::{Message, NoMemory, ReplicaId, Who};
 use fault_script::Script;
 use lms_tree::Height;
 use replica_core::{Core, Mover};
@@ -31,16 +32,7 @@ use std::alloc::Global;
 fn signs(replica: ReplicaId, message: &Message) -> bool
     ensures { result ≡ is_own replica (signer_of message.now) }
 {
-    match message {
-        Message::PrePrepare(x) => x.signer == replica,
-        Message::Prepare(x) | Message::Commit(x) => x.signer == replica,
-        Message::Checkpoint(x) => x.signer == replica,
-        Message::ViewChange(x) => x.signer == replica,
-        Message::NewView(x) => x.signer == replica,
-        Message::Drvc(x) | Message::Rvc(x) => x.signer == replica,
-        Message::ReplyNote(x) => x.signer == replica,
-        Message::Request(_) | Message::Share(_) | Message::Fetch(_) => false,
-    }
+    signer(message) == Some(Who::Replica(replica))
 }
 
 /// How many signatures the key of a replica gives.

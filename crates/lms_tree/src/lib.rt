@@ -14,6 +14,20 @@
 //! - [`verify`] checks a signature under a public key of any of the five heights and four kinds, and
 //!   [`read_public`] and [`write_public`] take public keys from bytes and back.
 //!
+//! `script_keys` makes a client's key and signs its request of stamp t by leaf t - 1, and `bft_verify` checks it:
+//!
+//! ```text
+//! let key = make(alloc, seed_of(script.seed, who), OtsKind::W4, Height::H5)?;
+//! let signature = sign_leaf(alloc, &key, stamp - 1, &content)?;
+//! ```
+//!
+//! ```text
+//! match verify(key, content, signature) {
+//!     Ok(()) => Ok(()),
+//!     Err(fault) => Err(Refusal::BadSignature { part, fault }),
+//! }
+//! ```
+//!
 //! Any bytes may be given as a signature or a key: what is refused is refused by name ([`SigFault`]),
 //! and neither `verify` nor `read_public` takes memory. The names and their order are this project's
 //! own; to each of them RFC 8554 answers INVALID. That a signature by a leaf is valid under the

@@ -3,10 +3,9 @@ ghost use Rattle.std.specs.Prelude.{◌≤◌, IfOk, IsTrue};
 ghost use Rattle.bft_verify.specs.Ring.{is_low};
 
 use crate::keys::{client_keys, replica_keys};
-use crate::limits::is_within_limits;
 use crate::unanswered::Unanswered;
 use bft_verify::{Keyring, keyring};
-use fab_base::{Members, members};
+use fab_base::{Members, is_within_limits, members};
 use lms_tree::Height;
 use std::alloc::Global;
 

@@ -14,7 +14,7 @@
 //! With the word `back` the bytes that spell an accepted message follow its kind. A first line that names no fabric is answered
 //! `Unreadable`, and one beyond the limits of a fabric `OutOfLimits`; then nothing else is answered.
 //!
-//! Modules: `unanswered` has the reasons for no answer, `fabric` the first line, `limits` its limits, `keys` the keys of a seed, and
+//! Modules: `unanswered` has the reasons for no answer, `fabric` the first line, `keys` the keys of a seed, and
 //! `answers` the answers to messages.
 #![tactic(auto)]
 
@@ -27,7 +27,6 @@ use std::io::{BufRead, BufReader};
 mod answers;
 mod fabric;
 mod keys;
-mod limits;
 mod unanswered;
 
 fn main(rt: HostRuntime) -> anyhow::Result<()> {

@@ -6,6 +6,13 @@
 //! `reading_of` of `specs/Reading`, which goes through the kinds as the format has them. Its readers are made of smaller ones (the
 //! words of `specs/Steps`), down to the fields (`specs/Fields`), and the code has a method for each.
 //!
+//! `bft_verify` lets bytes in so, and answers a fault by its own name for it:
+//!
+//! ```text
+//! let message = decode(alloc, bytes)?;
+//! admit(alloc, members, ring, message)
+//! ```
+//!
 //! [`spelling_law`] says what spellings are: none begins another, and equal bytes are equal messages, equal contents equal statements.
 //! It holds of every reader that is made so (`IsRead` of `proofs/Readers`: what is read is spelled so, and what is spelled so is read).
 //!

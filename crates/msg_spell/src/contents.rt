@@ -1,12 +1,13 @@
 //! What is signed of the statements that stand inside messages (ours): the number of the format, and everything of the spelling in front
-//! of the signature.
-ghost use Rattle.std.specs.Prelude.{◌≡◌, ◌++◌, IsTrue, OnOk};
+//! of the signature. And what stands between it and the signature.
+ghost use Rattle.std.specs.Prelude.{◌≡◌, ◌<◌, ◌^◌, ◌++◌, IsTrue, OnOk};
+ghost use Rattle.std.specs.Int.{w16, to_be_bytes};
 ghost use Rattle.fab_base.specs.declared.messages.Message.{Message};
 ghost use Rattle.fab_rules.specs.Format.{request_fits, view_change_fits};
 ghost use Rattle.fab_rules.specs.Spelling.{content_of};
 
 use crate::changes::put_view_change_body;
-use crate::fields::put_u8;
+use crate::fields::{put_signature_len, put_u8};
 use crate::requests::put_request_body;
 use crate::tags::{COMMIT, FORMAT, PREPARE};
 use crate::votes::{put_checkpoint_body, put_vote_body};
@@ -61,5 +62,15 @@ pub fn put_view_change_content(out: &mut Vec<u8>, change: &ViewChange) -> Result
 {
     put_u8(out, FORMAT)?;
     put_view_change_body(out, change)?;
+    Ok(())
+}
+
+/// Appends what stands between a content and a signature of so many bytes: their number, in two bytes, the high byte first. A content, this
+/// and the signature are the spelling of a signed message. It fails only where memory is refused; some of it may stand there then.
+pub fn put_seal_front(out: &mut Vec<u8>, signature_len: usize) -> Result<(), NoMemory>
+    requires { signature_len < 2 ^ 16 }
+    ensures { OnOk result (out.new.items ≡ out.old.items ++ to_be_bytes w16 signature_len) }
+{
+    put_signature_len(out, signature_len)?;
     Ok(())
 }

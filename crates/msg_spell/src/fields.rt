@@ -1,5 +1,5 @@
 //! Fields: numbers, short runs of bytes, replicas, digests and signatures.
-ghost use Rattle.std.specs.Prelude.{◌≡◌, ◌≤◌, ◌++◌, ◌∷◌, [], IsTrue, length, OnOk};
+ghost use Rattle.std.specs.Prelude.{◌≡◌, ◌<◌, ◌≤◌, ◌^◌, ◌++◌, ◌∷◌, [], IsTrue, length, OnOk};
 ghost use Rattle.std.specs.Int.{w16, w32, w64, to_be_bytes};
 ghost use Rattle.fab_base.specs.Fields.{bytes_fit};
 ghost use Rattle.fab_rules.specs.Spelling.{short_bytes, signed, replica_bytes};
@@ -75,12 +75,20 @@ pub fn put_short<W: Writer>(out: &mut W, bytes: &Bytes) -> Result<(), W::Fault>
     out.write(bytes.as_slice())
 }
 
-/// Writes the number of the bytes of a signature, in two bytes, and the signature.
+/// Writes the number of the bytes of a signature, in two bytes. The signature stands behind it.
+pub fn put_signature_len<W: Writer>(out: &mut W, len: usize) -> Result<(), W::Fault>
+    requires { len < 2 ^ 16 }
+    ensures { OnOk result (Gains W.holds out.old out.new (to_be_bytes w16 len)) }
+{
+    out.write(&(len as u16).to_be_bytes())
+}
+
+/// Writes the seal of a signed spelling: the number of the bytes of a signature, in two bytes, and the signature.
 pub fn put_signature<W: Writer>(out: &mut W, signature: &Bytes) -> Result<(), W::Fault>
     requires { IsTrue (signature_fits signature.now) }
     ensures { OnOk result (Gains W.holds out.old out.new (signed [] signature.now)) }
 {
-    out.write(&(signature.len() as u16).to_be_bytes())?;
+    put_signature_len(out, signature.len())?;
     out.write(signature.as_slice())
 }
 

@@ -3,8 +3,23 @@
 //! [`encode`] gives the spelling of a message and [`content`] what its signer signs; the `put_.._content` functions append what is
 //! signed of a statement inside a message, so that a signature is checked without making a message of it. [`fits`] tells whether a
 //! message has a spelling, and [`batch_digest`] is SHA-256 of a batch's spelling; these two take no memory. A number stands high byte
-//! first, in as many bytes as its field has; a list is its count and its items; a signed spelling ends with the length of the signature
-//! and the signature.
+//! first, in as many bytes as its field has; a list is its count and its items; a signed spelling ends with its seal, the length of the
+//! signature and the signature: [`put_seal_front`] writes the length for who signs what is already spelled.
+//!
+//! `script_keys` signs what a client asks for so:
+//!
+//! ```text
+//! let mut content = Vec::new(alloc);
+//! put_request_content(&mut content, &request)?;
+//! request.sig = sign_leaf(alloc, key, wish.stamp - 1, &content)?;
+//! ```
+//!
+//! and spells it as a message, once `fits` is known of it:
+//!
+//! ```text
+//! let message = Message::Request(request.duplicate()?);
+//! encode(alloc, &message)
+//! ```
 //!
 //! What the spelling is, and what fits, stands in the definitions of `fab_rules` (`Spelling`, `Format`, `Digests`), and each function here
 //! equals them. Code is written once for all three uses of a spelling: whatever is spelled goes to a [`Writer`](writers::Writer), which
@@ -33,7 +48,7 @@ mod writers;
 
 pub use contents::{
     put_checkpoint_content, put_commit_content, put_prepare_content, put_request_content,
-    put_view_change_content,
+    put_seal_front, put_view_change_content,
 };
 pub use digests::batch_digest;
 pub use messages::{content, encode, fits};

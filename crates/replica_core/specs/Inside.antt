@@ -1,8 +1,7 @@
 -- What the calls inside see: the state without the mark of a refusal in the middle of a step.
-use Rattle.std.specs.Prelude.{◌≡◌, Bool, length, Option, Some, None}
+use Rattle.std.specs.Prelude.{◌≡◌, Bool, length}
 use Rattle.fab_base.specs.Limits.{Roster}
 use Rattle.fab_base.specs.declared.ids.ReplicaId.{ReplicaId}
-use Rattle.fab_base.specs.declared.ids.Who.{Who}
 use Rattle.fab_machine.specs.State.{Replica}
 use Rattle.local_order.specs.Ordering.{Ordering}
 use Rattle.round_exec.specs.Book.{Book}
@@ -27,9 +26,3 @@ with_state o state = record { roster = o.roster; me = o.me; state = state; stuck
 -- the same replica of the same members, whatever became of its state
 abbrev pub IsSame : Assembly → Assembly → Type 0
 IsSame old new = (new.roster ≡ old.roster) × (new.me ≡ old.me)
-
--- the replica that signs, if one does
-abbrev pub replica_of : Option Who → Option ReplicaId
-replica_of None = None
-replica_of (Some (Who.Client c)) = None
-replica_of (Some (Who.Replica i)) = Some i

@@ -8,6 +8,16 @@
 //! - [`Core::moves`] asks beforehand whether an event would do anything, [`Core::rounds`] shows certificates and the ledger, and
 //!   [`Core::low`] and [`Core::low_proof`] the low mark with its proof.
 //!
+//! `core_cases` has a replica hear a message and asks it what it does next so:
+//!
+//! ```text
+//! let mut core = core(alloc, members.share()?, id)?;
+//! let answer = core.step(Event::Hear(shaped))?;
+//! if core.moves(Mover::Execute) {
+//!     core.step(Event::Execute)?;
+//! }
+//! ```
+//!
 //! It is a value: it knows no clock, no socket, no thread and no bytes. A message that is heard is a [`Shaped`](bft_msg::Shaped) one; whether its
 //! signatures hold was asked before.
 //!

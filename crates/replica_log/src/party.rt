@@ -24,6 +24,10 @@ impl<S: Signer + Drop> Party for ReplicaLog<S> {
         self.keeper.journal.len() as u64
     }
 
+    fn is_shut(&self) -> bool {
+        self.shut
+    }
+
     fn moves(&self, mover: Mover) -> bool {
         if self.shut {
             return false;

@@ -5,34 +5,25 @@ ghost use Rattle.fab_rules.specs.Shape.{IsShaped};
 ghost use Rattle.fab_machine.specs.State.{fresh};
 ghost use Rattle.fab_machine.specs.Step.{step};
 ghost use Rattle.fab_machine.specs.Diaries.{MayCome};
-ghost use Rattle.bft_verify.specs.Sound.{signature_of};
+ghost use Rattle.fab_rules.specs.Statements.{signature_of};
 ghost use Rattle.replica_core.specs.Cores as cores;
 ghost use Rattle.run_words.specs.Journal as journals;
 ghost use Rattle.run_words.specs.Journal.{Maker, state, IsMade, AreSound};
 
 use crate::making::fresh_core;
-use bft_msg::{Shaped, shape};
+use bft_msg::{Shaped, shape, signature};
 use fab_base::{Bytes, Duplicate, Members, Message, NoMemory, ReplicaId};
 use replica_core::{Core, Event};
 use run_words::Entry;
 use std::alloc::Global;
 
-/// The signature that a message bears: empty where it is of a kind that nobody signs.
-fn signature(alloc: Global, message: &Message) -> Result<Bytes, NoMemory>
+/// A copy of the signature that a message bears: empty where it is of a kind that nobody signs.
+fn signature_of(alloc: Global, message: &Message) -> Result<Bytes, NoMemory>
     ensures { IfOk result (λ bytes. bytes ≡ signature_of message.now) }
 {
-    match message {
-        Message::Request(x) => x.sig.copy(),
-        Message::PrePrepare(x) => x.sig.copy(),
-        Message::Prepare(x) => x.sig.copy(),
-        Message::Commit(x) => x.sig.copy(),
-        Message::Checkpoint(x) => x.sig.copy(),
-        Message::ViewChange(x) => x.sig.copy(),
-        Message::NewView(x) => x.sig.copy(),
-        Message::Drvc(x) => x.sig.copy(),
-        Message::Rvc(x) => x.sig.copy(),
-        Message::ReplyNote(x) => x.sig.copy(),
-        Message::Share(_) | Message::Fetch(_) => Ok(Bytes::new(alloc)),
+    match signature(message) {
+        Some(signature) => signature.copy(),
+        None => Ok(Bytes::new(alloc)),
     }
 }
 
@@ -55,7 +46,7 @@ fn event(alloc: Global, members: &Members, entry: &Entry) -> Result<Event, NoMem
         Entry::Proposed => Ok(Event::Batch),
         Entry::Nudged => Ok(Event::Nudge),
         Entry::Sent(item) => Ok(Event::Emit {
-            sig: signature(alloc, &item.message)?,
+            sig: signature_of(alloc, &item.message)?,
         }),
         Entry::Executed => Ok(Event::Execute),
         Entry::Marked => Ok(Event::Checkpoint),

@@ -12,8 +12,8 @@ ghost use Rattle.parcel_post.specs.Posting.{sent_with};
 ghost use Rattle.replica_log.specs.Sending.{Waits, content_in, receivers_in, sent_in, after_sending, parcels_next, ArePacked, IsSealed};
 
 use crate::keepers::Keeper;
+use bft_msg::put_seal_front;
 use fab_base::{Answer, Bytes, Item, NoMemory, ReplicaId};
-use fab_codec::put_u16;
 use lms_tree::{SignFault, Signer};
 use parcel_post::{Numbers, Prepared, prepare};
 use replica_core::{Core, Event};
@@ -35,7 +35,7 @@ fn pack(
 {
     let mut front = Vec::new(alloc);
     front.extend_from_slice(content)?;
-    put_u16(&mut front, signature_len as u16)?;
+    put_seal_front(&mut front, signature_len)?;
     prepare(alloc, numbers, time, &front, signature_len, to)
 }
 

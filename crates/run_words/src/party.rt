@@ -62,6 +62,10 @@ pub trait Party: Drop {
     fn entries(&self) -> u64
         ensures { result ≡ length (journal self.now) };
 
+    /// Whether it is shut: memory was refused in the middle of an act, and each later act answers so. Takes no memory.
+    fn is_shut(&self) -> bool
+        ensures { result ≡ shut self.now };
+
     /// Whether an act would make an entry, want of memory aside: never where the party is shut. Takes no memory.
     fn moves(&self, mover: Mover) -> bool
         ensures { result ≡ (not (shut self.now) && moves (made self.now) (journal self.now) mover) };

@@ -6,16 +6,6 @@ use Rattle.fab_base.specs.declared.ids.ReplicaId.{ReplicaId}
 use Rattle.fab_base.proofs.Tests.{and_left, and_right, and_both}
 use Rattle.script_keys.specs.Keys.{members_of}
 
-abbrev member : ℕ → ℕ → ReplicaId
-member cluster index = record { cluster = cluster; index = index }
-
-pub members_more : (l before : List ReplicaId) (cluster n : ℕ) → l ≡ before ++ members_of cluster n
-    → l ++ member cluster n ∷ [] ≡ before ++ members_of cluster (n + 1)
-members_more l before cluster n e =
-    let zero_on : 0 + n ≡ n = omega arith in
-    ap (λ (k : List ReplicaId). k ++ member cluster n ∷ []) e ∙ append_assoc before (members_of cluster n) (member cluster n ∷ [])
-    ∙ ap (λ (k : List ReplicaId). before ++ k) (sym (map-range_with_len_more (member cluster) 0 n n zero_on))
-
 pub map_twice : {A B C : Type 0} (g : B → C) (f : A → B) (xs : List A) → map g (map f xs) ≡ map (λ x. g (f x)) xs
 map_twice g f [] = refl
 map_twice g f (x ∷ xs) = ap (λ l. g (f x) ∷ l) (map_twice g f xs)

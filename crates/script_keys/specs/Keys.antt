@@ -1,6 +1,7 @@
 -- The keys of a script (ours): all of kind W4, those of replicas of the script's height, those of clients of height 5.
 use Rattle.std.specs.Prelude.{ℕ, ◌==◌, ◌+◌, List, [], ◌∷◌, ◌++◌, map, length, if◌then◌else◌}
 use Rattle.std.specs.List.{range_with_len}
+pub use Rattle.fab_base.specs.Roster.{members_of}
 use Rattle.fab_base.specs.declared.ids.ReplicaId.{ReplicaId}
 use Rattle.fab_base.specs.declared.ids.Who.{Who}
 use Rattle.fab_base.specs.declared.ids.Who.TheVariants.{Replica, Client}
@@ -45,10 +46,6 @@ abbrev pub signer_of : Script → Who → Leaves
 signer_of script who = record { key = key_of script who; used = 0 }
 
 -- ---- the keys of all
-
--- the members of a cluster of this size, by index
-abbrev pub members_of : ℕ → ℕ → List ReplicaId
-members_of cluster size = map (λ index. record { cluster = cluster; index = index }) (range_with_len 0 size)
 
 -- the replicas of clusters of these sizes, of which the first has this number
 abbrev pub replicas_from : ℕ → List ℕ → List ReplicaId

@@ -6,8 +6,7 @@ ghost use Rattle.fab_rules.specs.Spelling.{spelling_of};
 ghost use Rattle.fault_script.specs.Scripts.{keeps_limits};
 ghost use Rattle.script_keys.specs.Requests.{requests_of, receivers_of, pending_of, copies_to, copies_of};
 
-use crate::keys::put_members;
-use fab_base::{Bytes, Duplicate, Message, NoMemory, ReplicaId, Request, Rows};
+use fab_base::{Bytes, Duplicate, Message, NoMemory, ReplicaId, Request, Rows, put_members};
 use fault_script::Script;
 use msg_spell::encode;
 use run_words::{Origin, Pending};

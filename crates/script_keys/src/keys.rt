@@ -2,10 +2,10 @@
 ghost use Rattle.std.specs.Prelude.{◌≡◌, ◌≤◌, ◌++◌, true, IfOk, OnOk, length, map};
 ghost use Rattle.fab_base.specs.declared.limits.TheConstants.{MOST_CLUSTERS};
 ghost use Rattle.fault_script.specs.Scripts.{keeps_limits};
-ghost use Rattle.script_keys.specs.Keys.{height_of, key_height, key_of, members_of, replicas_from, replicas_of, signer_of, signers_of, client_keys_of};
+ghost use Rattle.script_keys.specs.Keys.{height_of, key_height, key_of, replicas_from, replicas_of, signer_of, signers_of, client_keys_of};
 
 use crate::names::seed_of;
-use fab_base::{ClientId, NoMemory, ReplicaId, Rows, Who};
+use fab_base::{ClientId, NoMemory, ReplicaId, Rows, Who, put_members};
 use fault_script::Script;
 use lms_leaf::LeafSigner;
 use lms_tree::{Height, Key, OtsKind, make};
@@ -38,20 +38,6 @@ fn key_of(alloc: Global, script: &Script, who: Who) -> Result<Key, NoMemory>
         OtsKind::W4,
         key_height(script, who),
     )
-}
-
-/// Puts the members of a cluster of this size behind others, by index.
-pub(crate) fn put_members(
-    replicas: &mut Rows<ReplicaId>,
-    cluster: u8,
-    size: u8,
-) -> Result<(), NoMemory>
-    ensures { OnOk result (replicas.new ≡ replicas.old ++ members_of cluster size) }
-{
-    for index in 0..size {
-        replicas.push(ReplicaId { cluster, index })?;
-    }
-    Ok(())
 }
 
 /// The replicas of clusters of these sizes, by id.

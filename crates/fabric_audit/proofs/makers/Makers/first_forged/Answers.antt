@@ -1,11 +1,6 @@
 use Rattle.fab_rules.specs.Statements.{parts_of}
-use Rattle.fab_rules.proofs.Fitting.{fields_are}
-use Rattle.bft_msg.proofs.Fitting.{parts_fit}
 use Rattle.fabric_audit.proofs.Forging.{none_forged, one_forged}
 use Rattle.fabric_audit.proofs.makers.Makers.first_forged.Goals as goal
-
-pub walk-requires-clause-may : goal.walk-requires-clause-may
-walk-requires-clause-may c = parts_fit c.args.message.now (fields_are c.args.message.now c.requires)
 
 pub returns-in-Ok : goal.returns-in-Ok
 returns-in-Ok c = none_forged c.args.self.now (parts_of c.args.message.now) c.in-Ok.ensures

@@ -1,6 +1,6 @@
 use Rattle.std.proofs.Common.{◌∙◌}
-use Rattle.script_keys.proofs.Listing.{members_more}
-use Rattle.script_keys.proofs.keys.put_members.Goals as goal
+use Rattle.fab_base.proofs.Listed.{members_more}
+use Rattle.fab_base.proofs.listing.put_members.Goals as goal
 
 pub loop-index-preserved : goal.loop-index-preserved
 loop-index-preserved c =

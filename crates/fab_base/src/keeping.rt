@@ -1,20 +1,16 @@
-//! Whether a fabric is within its limits.
+//! Whether a fabric keeps its limits.
 ghost use Rattle.std.specs.Prelude.{◌≡◌, ◌≤◌, length, sum, IsTrue};
 ghost use Rattle.fab_base.specs.Limits.{IsWithinLimits};
 
-use fab_base::{
+use crate::limits::{
     MOST_CLIENTS, MOST_CLUSTERS, MOST_MEMBERS, MOST_REPLICAS, MOST_REQUESTS, MOST_SLOTS,
 };
 
-/// Whether a fabric may have these clusters, clients and settings.
-pub(crate) fn is_within_limits(
-    sizes: &[u8],
-    homes: &[u8],
-    window: u8,
-    batch: u8,
-    interval: u8,
-) -> bool
-    ensures { IsTrue result → IsWithinLimits (record { sizes = sizes.now; homes = homes.now; window = window; interval = interval; batch = batch }) }
+/// Whether a fabric may have clusters of these sizes, clients of these homes, and these settings: exactly what [`members`](crate::members)
+/// asks of its caller (ours).
+pub fn is_within_limits(sizes: &[u8], homes: &[u8], window: u8, interval: u8, batch: u8) -> bool
+    ensures kept { IsTrue result → IsWithinLimits (record { sizes = sizes.now; homes = homes.now; window = window; interval = interval; batch = batch }) }
+    ensures only { IsWithinLimits (record { sizes = sizes.now; homes = homes.now; window = window; interval = interval; batch = batch }) → IsTrue result }
 {
     sizes.len() <= MOST_CLUSTERS as usize
         && sizes.iter().all(|size| 1 <= *size && *size <= MOST_MEMBERS)
@@ -31,7 +27,7 @@ pub(crate) fn is_within_limits(
         && batch <= MOST_REQUESTS
 }
 
-/// How many replicas there are in all.
+/// How many replicas there are in all clusters.
 fn replicas(sizes: &[u8]) -> u64
     requires { length sizes.now ≤ MOST_CLUSTERS }
     ensures { result ≡ sum sizes.now }
