@@ -52,6 +52,13 @@ impl<K: Drop> Slots<K> {
         self.members
     }
 
+    /// How many slots are open at once, at least 1: those from `low + 1` to `low` and so many. It stays the same.
+    pub fn width(&self) -> u64
+        ensures { result ≡ length self.now.slots }
+    {
+        self.slots.len() as u64
+    }
+
     /// Hears of a batch, with its digest: of each slot the first one is held. The answer is the first of these that holds:
     ///
     /// - `Old`, with the low mark: the slot is at or below it.
@@ -163,7 +170,7 @@ impl<K: Drop> Slots<K> {
         requires { self.old.low ≤ low }
         ensures { self.new ≡ moved_to self.old low }
     {
-        let count = (low - self.low).min(self.slots.len() as u64) as usize;
+        let count = (low - self.low).min(self.width()) as usize;
         leave_first(&mut self.slots, count);
         self.low = low;
     }
@@ -173,7 +180,7 @@ impl<K: Drop> Slots<K> {
         ensures is { result ≡ place_in self.now slot }
         ensures within { IfOk result (λ place. place < length self.now.slots) }
     {
-        let width = self.slots.len() as u64;
+        let width = self.width();
         if slot <= self.low {
             Err(Take::Old { low: self.low })
         } else if slot - self.low > width {

@@ -5,8 +5,22 @@
 //! contract here says of a call that the state of the table, `state_of`, and the answers are those.
 //!
 //! - `table` makes an empty one; `apply` applies a request, `last`, `value` and `entries` read.
-//! - `reserve` takes all the memory that a batch needs and holds the keys that it may write; `apply_batch` then applies the batch
-//!   without taking memory, so it can't fail halfway. Several batches may be reserved before the first is applied.
+//! - `run` applies a batch whole: it answers what the requests come to, or that memory was refused, and then nothing has changed.
+//! - `reserve` and `apply_batch` are its two halves, for a caller that makes more ready in between. `reserve` takes all the memory that
+//!   the batch needs and holds the keys that it may write; `apply_batch` then applies the batch without taking memory, so it can't
+//!   fail halfway. Several batches may be reserved before the first is applied.
+//!
+//! A caller, from `fabric_run`, where `plain` applies a script's requests in their order:
+//!
+//! ```
+//! let mut table = table(alloc, script.homes.len() as u8)?;
+//! let requests = requests_of(alloc, script)?;
+//! let outcomes = table.run(&requests)?;
+//! let entries = table.entries()?;
+//! let mut text = Vec::new(alloc);
+//! push_replies(&mut text, requests.as_slice(), outcomes.as_slice())?;
+//! push_table(&mut text, entries.as_slice())?;
+//! ```
 //!
 //! Keys are kept in an `IndexMap` in the order in which they came, each with a value or none. A key with none counts as absent, and no
 //! key is ever taken out: a value written at a held key needs no memory, which is what `apply_batch` rests on.

@@ -53,6 +53,24 @@ impl Table {
         Outcomes::from_vec(outcomes)
     }
 
+    /// Runs a batch: applies its requests one after another, as `apply` would, and answers what they come to. It is `reserve` and
+    /// `apply_batch` in one call, for a caller that has nothing else to make ready in between. Afterwards the keys that the batch may
+    /// write are held, as `reserve` holds them.
+    ///
+    /// It fails only where memory is refused, which is before the first request: then nothing has changed.
+    pub fn run(&mut self, batch: &Batch) -> Result<Outcomes, NoMemory>
+        requires clients { All (λ r. r.client.number < length self.old.stamps) batch.now }
+        requires short { All (λ r. WritesShort r.op) batch.now }
+        ensures outcomes { IfOk result (λ outcomes. outcomes ≡ outcomes_of (state_of self.old) batch.now) }
+        ensures state { OnOk result (state_of self.new ≡ state_after_all (state_of self.old) batch.now) }
+        ensures keys { OnOk result (keys_of self.new.held ≡ keys_of (held_for_all self.old.held batch.now)) }
+        ensures clients { length self.new.stamps ≡ length self.old.stamps }
+        ensures err { OnErr result (self.new ≡ self.old) }
+    {
+        let room = self.reserve(batch)?;
+        Ok(self.apply_batch(batch, room))
+    }
+
     /// Applies a request in the memory that was taken for it.
     fn apply_in(&mut self, request: &Request, place: Place) -> Outcome
         requires client { request.now.client.number < length self.old.stamps }
