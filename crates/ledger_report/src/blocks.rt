@@ -1,6 +1,5 @@
 //! The lines of a ledger's blocks, whose requests are applied anew to an empty table.
 ghost use Rattle.std.specs.Prelude.{◌≡◌, ◌<◌, ◌++◌, Some, flat_map, length, All, IfOk, OnOk, IsTrue, slice_get};
-ghost use Rattle.fab_base.specs.Table.{outcomes_of, state_after_all};
 ghost use Rattle.fab_rules.specs.Format.{batch_fits};
 ghost use Rattle.fab_rules.specs.Ledger.{run_from, state_after_blocks};
 ghost use Rattle.round_exec.specs.Book.{are_clients};
@@ -9,7 +8,7 @@ ghost use Rattle.ledger_report.specs.Walking.{block_line, lines_told, IsWhole};
 
 use crate::notes::{Told, told_by};
 use crate::text::{push_bytes, push_number, push_replies};
-use fab_base::{Batch, NoMemory, Outcomes};
+use fab_base::{NoMemory, Outcomes};
 use fab_rules::Block;
 use round_exec::Rounds;
 use seq_table::Table;
@@ -27,18 +26,6 @@ fn block_at(rounds: &Rounds, clusters: u8, place: usize) -> &Block
     let round = place as u64 / clusters as u64 + 1;
     let cluster = (place % clusters as usize) as u8 + 1;
     rounds.block(round, cluster).unwrap()
-}
-
-/// Applies a batch in memory that is taken before its first request, and answers what its requests come to.
-fn apply(table: &mut Table, batch: &Batch) -> Result<Outcomes, NoMemory>
-    requires clients { IsTrue (are_clients (length table.old.stamps) batch.now) }
-    requires fits { IsTrue (batch_fits batch.now) }
-    ensures outcomes { IfOk result (λ outcomes. outcomes ≡ outcomes_of (state_of table.old) batch.now) }
-    ensures state { OnOk result (state_of table.new ≡ state_after_all (state_of table.old) batch.now) }
-    ensures clients { OnOk result (length table.new.stamps ≡ length table.old.stamps) }
-{
-    let room = table.reserve(batch)?;
-    Ok(table.apply_batch(batch, room))
 }
 
 /// Adds the line of a block, of which so many notes tell.
@@ -86,7 +73,7 @@ pub(crate) fn push_blocks(
 {
     for place in 0..rounds.ledger().len() {
         let block = block_at(rounds, clusters, place);
-        let outcomes = apply(table, &block.batch)?;
+        let outcomes = table.run(&block.batch)?;
         push_block(text, told, block, &outcomes)?;
     }
     Ok(())

@@ -128,6 +128,7 @@ impl Executed {
         }
         let before = (round - 1) as usize * usize::from(self.clusters);
         let place = before + usize::from(cluster - 1);
+        // For the proof: the clause `within`.
         prove!(place < blocks);
         Some(place)
     }

@@ -10,16 +10,14 @@
 //!   the batch needs and holds the keys that it may write; `apply_batch` then applies the batch without taking memory, so it can't
 //!   fail halfway. Several batches may be reserved before the first is applied.
 //!
-//! A caller, from `fabric_run`, where `plain` applies a script's requests in their order:
+//! A caller, from `ledger_report`, which applies a ledger's blocks anew and writes the lines of each:
 //!
 //! ```
-//! let mut table = table(alloc, script.homes.len() as u8)?;
-//! let requests = requests_of(alloc, script)?;
-//! let outcomes = table.run(&requests)?;
-//! let entries = table.entries()?;
-//! let mut text = Vec::new(alloc);
-//! push_replies(&mut text, requests.as_slice(), outcomes.as_slice())?;
-//! push_table(&mut text, entries.as_slice())?;
+//! for place in 0..rounds.ledger().len() {
+//!     let block = block_at(rounds, clusters, place);
+//!     let outcomes = table.run(&block.batch)?;
+//!     push_block(text, told, block, &outcomes)?;
+//! }
 //! ```
 //!
 //! Keys are kept in an `IndexMap` in the order in which they came, each with a value or none. A key with none counts as absent, and no
