@@ -1,18 +1,16 @@
 //! `plain`: a script's requests, applied in order to one table.
-ghost use Rattle.std.specs.Prelude.{◌≡◌, ◌<◌, length, true, All, IfOk, OnOk};
-ghost use Rattle.fab_base.specs.Table.{outcomes_of, state_after_all};
-ghost use Rattle.seq_table.specs.Holding.{state_of, WritesShort};
+ghost use Rattle.std.specs.Prelude.{◌≡◌, true, IfOk};
 ghost use Rattle.fault_script.specs.Scripts.{keeps_limits};
 ghost use Rattle.fabric_run.specs.Plain.{request_of, requests_of, plain_text, PlainMakes};
 ghost use Rattle.fabric_run.specs.Exits.{seen, Ends, IsRun};
 
 use crate::exits::Exit;
 use crate::transfer::{hand_over, script_from};
-use fab_base::{Batch, Bytes, NoMemory, Outcomes, Request, Rows};
+use fab_base::{Batch, Bytes, NoMemory, Request, Rows};
 use fab_io::{Sink, Source};
 use fault_script::{Script, Wish};
 use ledger_report::{push_done, push_replies, push_table};
-use seq_table::{Table, table};
+use seq_table::table;
 use std::alloc::Global;
 
 /// The request that a script has a client make, unsigned.
@@ -39,17 +37,6 @@ fn requests_of(alloc: Global, script: Script) -> Result<Batch, NoMemory>
     Ok(Rows::from_vec(requests))
 }
 
-/// Applies requests in order, in memory that is taken before the first one, and answers what they come to.
-fn outcomes_of(table: &mut Table, requests: &Batch) -> Result<Outcomes, NoMemory>
-    requires clients { All (λ r. r.client.number < length table.old.stamps) requests.now }
-    requires short { All (λ r. WritesShort r.op) requests.now }
-    ensures outcomes { IfOk result (λ outcomes. outcomes ≡ outcomes_of (state_of table.old) requests.now) }
-    ensures state { OnOk result (state_of table.new ≡ state_after_all (state_of table.old) requests.now) }
-{
-    let room = table.reserve(requests)?;
-    Ok(table.apply_batch(requests, room))
-}
-
 /// The text of a script: a line for each request, the table, and the end.
 fn text_of(alloc: Global, script: Script) -> Result<Bytes, NoMemory>
     requires { keeps_limits script ≡ true }
@@ -57,7 +44,7 @@ fn text_of(alloc: Global, script: Script) -> Result<Bytes, NoMemory>
 {
     let mut table = table(alloc, script.homes.len() as u8)?;
     let requests = requests_of(alloc, script)?;
-    let outcomes = outcomes_of(&mut table, &requests)?;
+    let outcomes = table.run(&requests)?;
     let entries = table.entries()?;
     let mut text = Vec::new(alloc);
     push_replies(&mut text, requests.as_slice(), outcomes.as_slice())?;
