@@ -52,7 +52,7 @@ impl<K: Drop> Slots<K> {
         self.members
     }
 
-    /// How many slots are open at once, at least 1: those from `low + 1` to `low` and so many. It stays the same.
+    /// How many slots are open at once: those from `low + 1` to `low` and so many. No call changes it.
     pub fn width(&self) -> u64
         ensures { result ≡ length self.now.slots }
     {

@@ -12,7 +12,7 @@
 //!
 //! A caller, from `ledger_report`, which applies a ledger's blocks anew and writes the lines of each:
 //!
-//! ```
+//! ```text
 //! for place in 0..rounds.ledger().len() {
 //!     let block = block_at(rounds, clusters, place);
 //!     let outcomes = table.run(&block.batch)?;
