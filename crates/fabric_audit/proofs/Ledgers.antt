@@ -27,13 +27,13 @@ use Rattle.run_words.specs.Lawful.{AreEach, Kept}
 use Rattle.run_words.specs.declared.logs.Entry.{Entry}
 use Rattle.run_words.specs.declared.logs.Trace.{Trace}
 use Rattle.run_words.proofs.Replays.{same_diary}
+use Rattle.replica_log.specs.Replayed.{IsReplayable, state_after}
 use Rattle.script_keys.specs.Keys.{members_of, replicas_from, replicas_of}
 use Rattle.script_keys.proofs.Wishes.{asked_in}
 use Rattle.run_worlds.specs.Scripts.{roster_of, maker_of, makers_of}
 use Rattle.run_worlds.specs.Worlds.{ledgers_in}
 use Rattle.run_worlds.specs.Endings.{has_effect}
 use Rattle.run_worlds.proofs.ScriptLimits.{within_limits}
-use Rattle.fabric_audit.specs.Replayed.{maker_by, IsReplayable, state_by}
 use Rattle.fabric_audit.specs.Stamps.{is_served_in}
 use Rattle.fabric_audit.proofs.LastStamps.{effect_is}
 
@@ -82,23 +82,31 @@ all_of script m h =
     let o = of_map (maker_of script) m (replicas_of script) h in
     subst (IsOf script) o.same (record { is = refl; member = takes_part script o.from o.is_in })
 
+-- what the replica was made with that left the trace
+abbrev pub maker_by : Script → Trace → Maker
+maker_by script t = maker_of script t.id
+
 -- what a trace was made with is named by its id
 pub named_by : (script : Script) (m : Maker) (t : Trace) → IsOf script m → Kept m t → m ≡ maker_by script t
 named_by script m t o k = o.is ∙ ap (maker_of script) (sym k.named)
 
-pub replayable : (script : Script) (m : Maker) (t : Trace) → IsOf script m → Kept m t → IsReplayable script t
+pub replayable : (script : Script) (m : Maker) (t : Trace) → IsOf script m → Kept m t → IsReplayable (roster_of script) t
 replayable script m t o k = record {
   member = subst (λ (i : ReplicaId). IsTrue (is_replica (roster_of script) i)) (sym k.named) o.member;
-  kept = subst (λ (x : Maker). Kept x t) (named_by script m t o k) k;
+  maker = m;
+  roster_is = ap (λ (x : Maker). x.roster) o.is;
+  id_is = sym k.named;
+  made = k.replays;
+  sound = k.sound;
 }
 
 pub all_replayable : (script : Script) (makers : List Maker) (traces : List Trace) → AreOf script makers → AreEach Kept makers traces
-    → All (IsReplayable script) traces
-all_replayable script [] [] o k = All-nil (IsReplayable script)
+    → All (IsReplayable (roster_of script)) traces
+all_replayable script [] [] o k = All-nil (IsReplayable (roster_of script))
 all_replayable script [] (t ∷ traces) o k = absurd k
 all_replayable script (m ∷ makers) [] o k = absurd k
 all_replayable script (m ∷ makers) (t ∷ traces) o k =
-    All-cons (IsReplayable script) t traces (replayable script m t (o m (inl refl)) k.0)
+    All-cons (IsReplayable (roster_of script)) t traces (replayable script m t (o m (inl refl)) k.0)
     (all_replayable script makers traces (λ n h. o n (inr h)) k.1)
 
 -- ---- the ledger of a journal's diary is that of its state
@@ -133,6 +141,10 @@ ledger_is m journal limits known made sound =
 
 -- ---- what took effect in each
 
+state_is : (script : Script) (t : Trace) → state_after (roster_of script) t ≡ state (maker_by script t) t.journal
+unfolding state
+state_is script t = refl
+
 pub effective : (script : Script) (w : Wish) (makers : List Maker) (traces : List Trace) → keeps_limits script ≡ true → In w script.requests
     → AreOf script makers → AreEach Kept makers traces
     → list_all (is_served_in script w) traces ≡ list_all (has_effect (roster_of script) w) (ledgers_in makers traces)
@@ -143,13 +155,14 @@ effective script w (m ∷ makers) (t ∷ traces) limits asked o k =
     let mine = o m (inl refl) in
     let named = named_by script m t mine k.0 in
     let roster : roster_of script ≡ m.roster = sym (ap (λ (x : Maker). x.roster) mine.is) in
-    let blocks : (state_by script t).rounds.blocks ≡ ledger (diary m t.journal) =
-    ap (λ (x : Maker). (state x t.journal).rounds.blocks) (sym named)
+    let blocks : (state_after (roster_of script) t).rounds.blocks ≡ ledger (diary m t.journal) =
+    ap (λ (s : Replica). s.rounds.blocks) (state_is script t)
+    ∙ ap (λ (x : Maker). (state x t.journal).rounds.blocks) (sym named)
     ∙ ledger_is m t.journal (subst IsWithinLimits roster (within_limits script limits))
     (subst (λ (r : Roster). IsTrue (is_replica r m.id)) roster mine.member) k.0.replays k.0.sound in
     let a = asked_in script w limits asked in
     let here : is_served_in script w t ≡ has_effect (roster_of script) w (ledger (diary m t.journal)) =
-    effect_is (roster_of script) w (state_by script t).rounds.blocks a.stamp.0 a.number
+    effect_is (roster_of script) w (state_after (roster_of script) t).rounds.blocks a.stamp.0 a.number
     ∙ ap (has_effect (roster_of script) w) blocks in
     ap (λ b. b && list_all (is_served_in script w) traces) here
     ∙ ap (λ b. has_effect (roster_of script) w (ledger (diary m t.journal)) && b)

@@ -5,9 +5,9 @@ use Rattle.std.proofs.lemmas.List.Folds.{list_all_more}
 use Rattle.fault_script.specs.declared.scripts.Script.{Script}
 use Rattle.run_words.specs.declared.logs.Trace.{Trace}
 use Rattle.run_words.specs.declared.logs.Transcript.{Transcript}
-use Rattle.run_worlds.specs.Scripts.{makers_of}
+use Rattle.replica_log.specs.Replayed.{IsReplayable}
+use Rattle.run_worlds.specs.Scripts.{roster_of, makers_of}
 use Rattle.run_worlds.specs.Endings.{IsOfLogs, is_effective, first_missing}
-use Rattle.fabric_audit.specs.Replayed.{IsReplayable}
 use Rattle.fabric_audit.specs.Stamps.{stamps_of, is_served, is_served_in, served_by}
 use Rattle.fabric_audit.proofs.Prefixes.{both_pass, same_pass, first_not}
 use Rattle.fabric_audit.proofs.Ledgers.{all_of, all_replayable, effective}
@@ -35,5 +35,5 @@ missing_is t count run is =
     (λ w h. effective t.script w (makers_of t.script) t.traces run.limits h (all_of t.script) run.kept))
     ∙ first_not (is_effective t) t.script.requests
 
-pub run_replayable : (t : Transcript) → IsOfLogs t → All (IsReplayable t.script) t.traces
+pub run_replayable : (t : Transcript) → IsOfLogs t → All (IsReplayable (roster_of t.script)) t.traces
 run_replayable t run = all_replayable t.script (makers_of t.script) t.traces (all_of t.script) run.kept

@@ -13,16 +13,17 @@ use Rattle.run_words.specs.declared.movers.Mover.{Mover}
 use Rattle.run_words.specs.declared.logs.Trace.{Trace}
 use Rattle.run_words.proofs.Replays.{sent_or_blocked}
 use Rattle.script_keys.specs.Keys.{leaves_of}
-use Rattle.fabric_audit.specs.Replayed.{maker_by, core_of}
+use Rattle.replica_log.specs.Replayed.{core_after}
+use Rattle.run_worlds.specs.Scripts.{roster_of}
 use Rattle.fabric_audit.specs.Still.{is_still_at, is_still}
-use Rattle.fabric_audit.proofs.Ledgers.{IsOf, AreOf, named_by}
+use Rattle.fabric_audit.proofs.Ledgers.{maker_by, IsOf, AreOf, named_by}
 
-pub still_is : (script : Script) (t : Trace) (core : Machine) (leaves used : ℕ) → core ≡ core_of script t → leaves ≡ leaves_of script (Replica t.id)
+pub still_is : (script : Script) (t : Trace) (core : Machine) (leaves used : ℕ) → core ≡ core_after (roster_of script) t → leaves ≡ leaves_of script (Replica t.id)
     → used ≡ length t.signed → is_still_at t.id core leaves used ≡ is_still script t
 still_is script t core leaves used a b c =
     ap (λ (x : Machine). is_still_at t.id x leaves used) a
-    ∙ ap (λ n. is_still_at t.id (core_of script t) n used) b
-    ∙ ap (is_still_at t.id (core_of script t) (leaves_of script (Replica t.id))) c
+    ∙ ap (λ n. is_still_at t.id (core_after (roster_of script) t) n used) b
+    ∙ ap (is_still_at t.id (core_after (roster_of script) t) (leaves_of script (Replica t.id))) c
 
 -- ---- what the test tells
 
@@ -58,7 +59,7 @@ module _ (script : Script) (t : Trace) (used : t.signed ≡ signed_of (maker_by 
   blocked n = needs_leaf t.id (first (state (maker_by script t) t.journal)) && nat_le (maker_by script t).leaves n
 
   idle_from : is_still script t ≡ true → AreIdle (maker_by script t) t
-  unfolding moves is_blocked
+  unfolding moves is_blocked state
   idle_from h =
       let batch = and_left _ _ h in
       let after_batch = and_right _ _ h in
@@ -77,7 +78,7 @@ module _ (script : Script) (t : Trace) (used : t.signed ≡ signed_of (maker_by 
       )
 
   still_from : AreIdle (maker_by script t) t → is_still script t ≡ true
-  unfolding moves is_blocked
+  unfolding moves is_blocked state
   still_from h =
       and_both _ _ (is_not (would Event.Batch) h.0)
       (and_both _ _ (is_not (would Event.Nudge) h.1)

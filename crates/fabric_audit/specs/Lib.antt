@@ -1,4 +1,3 @@
-pub mod Replayed
 pub mod Stamps
 pub mod Counts
 pub mod Still

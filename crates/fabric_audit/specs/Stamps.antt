@@ -7,7 +7,8 @@ use Rattle.fab_rules.specs.declared.blocks.Block.{Block}
 use Rattle.fault_script.specs.declared.scripts.Script.{Script}
 use Rattle.fault_script.specs.declared.scripts.Wish.{Wish}
 use Rattle.run_words.specs.declared.logs.Trace.{Trace}
-use Rattle.fabric_audit.specs.Replayed.{state_by}
+use Rattle.replica_log.specs.Replayed.{state_after}
+use Rattle.run_worlds.specs.Scripts.{roster_of}
 
 -- how many numbers a client may have
 abbrev pub NUMBERS : ℕ
@@ -33,7 +34,7 @@ is_served last wish = nat_le wish.stamp (slice_index last wish.client.number)
 
 -- the last stamps after the ledger of the replica that left the trace
 abbrev pub stamps_of : Script → Trace → List ℕ
-stamps_of script t = last_stamps (state_by script t).rounds.blocks
+stamps_of script t = last_stamps (state_after (roster_of script) t).rounds.blocks
 
 -- the request took effect in that ledger
 abbrev pub is_served_in : Script → Wish → Trace → Bool

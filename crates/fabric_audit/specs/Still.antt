@@ -8,8 +8,9 @@ use Rattle.replica_core.specs.Cores.{Machine, moves_by}
 use Rattle.replica_core.specs.declared.events.Mover.{Mover}
 use Rattle.run_words.specs.Journal.{needs_leaf}
 use Rattle.run_words.specs.declared.logs.Trace.{Trace}
+use Rattle.replica_log.specs.Replayed.{core_after}
 use Rattle.script_keys.specs.Keys.{leaves_of}
-use Rattle.fabric_audit.specs.Replayed.{core_of}
+use Rattle.run_worlds.specs.Scripts.{roster_of}
 
 -- the replica has so many leaves, of which it used so many: Emit is still behind a used-up key
 abbrev pub is_still_at : ReplicaId → Machine → ℕ → ℕ → Bool
@@ -22,4 +23,4 @@ is_still_at me core leaves used =
 
 -- the replica that left the trace
 abbrev pub is_still : Script → Trace → Bool
-is_still script t = is_still_at t.id (core_of script t) (leaves_of script (Replica t.id)) (length t.signed)
+is_still script t = is_still_at t.id (core_after (roster_of script) t) (leaves_of script (Replica t.id)) (length t.signed)

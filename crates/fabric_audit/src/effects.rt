@@ -5,8 +5,9 @@ ghost use Rattle.std.specs.Prelude.{◌≡◌, true, length, IfOk};
 ghost use Rattle.std.specs.List.{All, prefix_len};
 ghost use Rattle.std.specs.Option.{option_copied};
 ghost use Rattle.fault_script.specs.Scripts.{keeps_limits};
+ghost use Rattle.replica_log.specs.Replayed.{IsReplayable};
+ghost use Rattle.run_worlds.specs.Scripts.{roster_of};
 ghost use Rattle.run_worlds.specs.Endings.{IsOfLogs, first_missing};
-ghost use Rattle.fabric_audit.specs.Replayed.{IsReplayable};
 ghost use Rattle.fabric_audit.specs.Stamps.{NUMBERS, counted, counted_all, last_stamps, stamps_of, is_served, served_by};
 
 use crate::cores::core_of;
@@ -54,7 +55,7 @@ fn last_stamps(blocks: &[Block]) -> [u32; NUMBERS]
 /// The same after the ledger of the replica that left this trace.
 fn stamps_of(alloc: Global, script: &Script, trace: &Trace) -> Result<[u32; NUMBERS], NoMemory>
     requires limits { keeps_limits script.now ≡ true }
-    requires kept { IsReplayable script.now trace.now }
+    requires replayable { IsReplayable (roster_of script.now) trace.now }
     ensures { IfOk result (λ stamps. stamps ≡ stamps_of script.now trace.now) }
 {
     let core = core_of(alloc, script, trace)?;
@@ -79,7 +80,7 @@ fn served(stamps: &[u32], requests: &[Wish]) -> usize
 /// How many requests of the script, from the first on, took effect in the ledger of each of these replicas.
 fn served_by_all(alloc: Global, script: &Script, traces: &[Trace]) -> Result<usize, NoMemory>
     requires limits { keeps_limits script.now ≡ true }
-    requires kept { All (IsReplayable script.now) traces.now }
+    requires replayable { All (IsReplayable (roster_of script.now)) traces.now }
     ensures { IfOk result (λ count. count ≡ prefix_len (served_by script.now traces.now) script.now.requests) }
 {
     let requests = script.requests.as_slice();

@@ -11,9 +11,10 @@ ghost use Rattle.fab_machine.specs.Items.{is_own};
 ghost use Rattle.fab_machine.specs.Step.{first};
 ghost use Rattle.fault_script.specs.Scripts.{keeps_limits};
 ghost use Rattle.run_words.specs.Journal.{needs_leaf};
+ghost use Rattle.replica_log.specs.Replayed.{IsReplayable};
 ghost use Rattle.script_keys.specs.Keys.{leaves_of};
+ghost use Rattle.run_worlds.specs.Scripts.{roster_of};
 ghost use Rattle.run_worlds.specs.Endings.{IsRunOf, IsSettled};
-ghost use Rattle.fabric_audit.specs.Replayed.{IsReplayable};
 ghost use Rattle.fabric_audit.specs.Counts.{all_taken, all_put};
 ghost use Rattle.fabric_audit.specs.Still.{is_still_at, is_still};
 
@@ -71,7 +72,7 @@ fn is_still_at(replica: ReplicaId, core: &Core, leaves: u64, used: u64) -> bool
 /// Whether no event would make an entry at the replica that left this trace.
 fn is_still(alloc: Global, script: &Script, trace: &Trace) -> Result<bool, NoMemory>
     requires limits { keeps_limits script.now ≡ true }
-    requires kept { IsReplayable script.now trace.now }
+    requires replayable { IsReplayable (roster_of script.now) trace.now }
     ensures { IfOk result (λ still. still ≡ is_still script.now trace.now) }
 {
     let core = core_of(alloc, script, trace)?;
@@ -84,7 +85,7 @@ fn is_still(alloc: Global, script: &Script, trace: &Trace) -> Result<bool, NoMem
 /// Whether no event would make an entry at any of the replicas.
 fn are_still(alloc: Global, script: &Script, traces: &[Trace]) -> Result<bool, NoMemory>
     requires limits { keeps_limits script.now ≡ true }
-    requires kept { All (IsReplayable script.now) traces.now }
+    requires replayable { All (IsReplayable (roster_of script.now)) traces.now }
     ensures { IfOk result (λ still. still ≡ list_all (is_still script.now) traces.now) }
 {
     for trace in traces {

@@ -33,7 +33,8 @@ use Rattle.run_worlds.specs.Endings.{IsOfLogs}
 use Rattle.run_worlds.proofs.ScriptLimits.{within_limits}
 use Rattle.audit_laws.proofs.Members.{takes_part}
 use Rattle.ledger_report.specs.Report.{ledger_line, ledger_lines}
-use Rattle.ledger_report.specs.Replayed.{state_after, ledger_after, ledger_text, IsReplayable}
+use Rattle.replica_log.specs.Replayed.{state_after}
+use Rattle.ledger_report.specs.Replayed.{ledger_after, ledger_text, HasLedger}
 
 -- ---- the state after a journal, and its diary
 
@@ -62,7 +63,7 @@ pub record IsMember (r : Roster) (m : Maker) : Type 0 where
 
 -- it can be replayed, and that gives its diary's ledger
 pub record IsTold (r : Roster) (m : Maker) (t : Trace) : Type 0 where
-  pub replayable : IsReplayable r t
+  pub has_ledger : HasLedger r t
   pub ledger_is : ledger (diary m t.journal) ≡ ledger_after r t
 
 is_told : (r : Roster) (m : Maker) (t : Trace) → IsWithinLimits r → IsMember r m → Kept m t → IsTold r m t
@@ -72,13 +73,15 @@ is_told r m t limits is kept =
     let events = map event_of t.journal in
     let rel = related m r t.id (fresh r t.id) [] t.journal limits known is.roster_is kept.sound (starts_related r t.id limits known) in
     record {
-      replayable = record {
-        member = known;
-        maker = m;
-        roster_is = is.roster_is;
-        id_is = named;
-        made = kept.replays;
-        sound = kept.sound;
+      has_ledger = record {
+        replayable = record {
+          member = known;
+          maker = m;
+          roster_is = is.roster_is;
+          id_is = named;
+          made = kept.replays;
+          sound = kept.sound;
+        };
         whole = rel.rounds.whole;
       };
       ledger_is =
@@ -91,20 +94,20 @@ is_told r m t limits is kept =
 -- ---- all traces
 
 pub record AreTold (r : Roster) (makers : List Maker) (traces : List Trace) : Type 0 where
-  pub replayable : All (IsReplayable r) traces
+  pub have_ledgers : All (HasLedger r) traces
   pub lines : ledger_lines (length r.sizes) makers traces ≡ flat_map (ledger_text r) traces
   pub ledgers : ledgers_in makers traces ≡ map (ledger_after r) traces
 
 are_told : (r : Roster) (makers : List Maker) (traces : List Trace) → IsWithinLimits r → ((m : Maker) → In m makers → IsMember r m)
     → AreEach Kept makers traces → AreTold r makers traces
-are_told r [] [] limits is kept = record { replayable = All-nil (IsReplayable r); lines = refl; ledgers = refl }
+are_told r [] [] limits is kept = record { have_ledgers = All-nil (HasLedger r); lines = refl; ledgers = refl }
 are_told r [] (t ∷ traces) limits is kept = absurd kept
 are_told r (m ∷ makers) [] limits is kept = absurd kept
 are_told r (m ∷ makers) (t ∷ traces) limits is kept =
     let here = is_told r m t limits (is m (inl refl)) kept.0 in
     let rest = are_told r makers traces limits (λ n h. is n (inr h)) kept.1 in
     record {
-      replayable = All-cons (IsReplayable r) t traces here.replayable rest.replayable;
+      have_ledgers = All-cons (HasLedger r) t traces here.has_ledger rest.have_ledgers;
       lines =
           (λ i. ledger_line (length r.sizes) t.id (here.ledger_is i) ++ rest.lines i) ∙ sym (flat_map-cons (ledger_text r) t traces);
       ledgers = λ i. here.ledger_is i ∷ rest.ledgers i;

@@ -1,22 +1,14 @@
 //! The ledgers of a run, and the longest of them. One replica's state is held at a time.
 ghost use Rattle.std.specs.Prelude.{◌≡◌, ◌++◌, All, flat_map, length, IfOk, OnOk};
 ghost use Rattle.std.specs.Option.{option_copied};
-ghost use Rattle.ledger_report.specs.Replayed.{ledger_after, core_after, ledger_text, longest_after, IsReplayable, IsLedgerOf};
+ghost use Rattle.replica_log.specs.Replayed.{IsReplayable};
+ghost use Rattle.ledger_report.specs.Replayed.{ledger_after, ledger_text, longest_after, HasLedger, IsLedgerOf};
 
 use crate::lines::push_ledger;
 use fab_base::{Members, NoMemory};
-use replica_core::Core;
-use replica_log::replay;
+use replica_log::replayed;
 use run_words::Trace;
 use std::alloc::Global;
-
-/// The core of a replica after its journal.
-pub(crate) fn replayed(alloc: Global, members: &Members, trace: &Trace) -> Result<Core, NoMemory>
-    requires { IsReplayable members.now trace.now }
-    ensures { IfOk result (λ core. core ≡ core_after members.now trace.now) }
-{
-    replay(alloc, members.share()?, trace.id, trace.journal.as_slice())
-}
 
 /// Adds the line of a replica's ledger, and answers how many blocks that has.
 fn push_replayed(
@@ -43,7 +35,7 @@ pub(crate) fn push_ledgers<'a>(
     members: &Members,
     traces: &'a [Trace],
 ) -> Result<Option<&'a Trace>, NoMemory>
-    requires { All (IsReplayable members.now) traces.now }
+    requires { All (HasLedger members.now) traces.now }
     ensures lines { OnOk result (text.new.items ≡ text.old.items ++ flat_map (ledger_text members.now) traces.now) }
     ensures longest { IfOk result (λ best. IsLedgerOf members.now (longest_after members.now traces.now) (option_copied best)) }
 {

@@ -2,14 +2,14 @@
 ghost use Rattle.std.specs.Prelude.{◌≡◌, ◌++◌, length, OnOk};
 ghost use Rattle.std.specs.Option.{option_copied};
 ghost use Rattle.fab_base.specs.Table.{empty_state};
-ghost use Rattle.ledger_report.specs.Replayed.{ledger_after, longest_after, IsReplayable, IsLedgerOf};
+ghost use Rattle.ledger_report.specs.Replayed.{ledger_after, longest_after, HasLedger, IsLedgerOf};
 ghost use Rattle.ledger_report.specs.Walking.{run_text, IsWhole};
 
 use crate::blocks::push_blocks;
-use crate::ledgers::replayed;
 use crate::notes::told_by_all;
 use crate::text::push_table;
 use fab_base::{Members, NoMemory};
+use replica_log::replayed;
 use round_exec::Rounds;
 use run_words::Trace;
 use seq_table::table;
@@ -45,7 +45,7 @@ fn push_run(
     traces: &[Trace],
     trace: &Trace,
 ) -> Result<(), NoMemory>
-    requires replayable { IsReplayable members.now trace.now }
+    requires ledger { HasLedger members.now trace.now }
     requires clients { clients ≡ length members.now.homes }
     ensures { OnOk result (text.new.items ≡ text.old.items ++ run_text traces.now (empty_state (length members.now.homes)) (ledger_after members.now trace.now)) }
 {

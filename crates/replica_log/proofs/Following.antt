@@ -1,6 +1,7 @@
 -- The replay of a journal, entry by entry.
-use Rattle.std.proofs.Common.{◌≡◌, ℕ, zero, suc, ◌+◌, ◌<◌, ◌≤◌, false, List, [], ◌∷◌, ◌++◌, map, take, length, get_or, refl, sym, ap, subst, ◌∙◌, arith, take_all}
+use Rattle.std.proofs.Common.{◌≡◌, ℕ, zero, suc, ◌+◌, ◌<◌, ◌≤◌, false, List, [], ◌∷◌, ◌++◌, map, take, length, get_or, Result, Ok, Err, refl, sym, ap, subst, ◌∙◌, arith, take_all}
 use Rattle.std.proofs.lemmas.List.{take_more}
+use Rattle.std.specs.Prelude.{IfOk}
 use Rattle.fab_base.specs.Limits.{Roster}
 use Rattle.fab_base.specs.declared.ids.ReplicaId.{ReplicaId}
 use Rattle.fab_machine.specs.State.{Replica, fresh}
@@ -9,7 +10,9 @@ use Rattle.fab_machine.specs.Diaries.{MayCome, state_from, state_of}
 use Rattle.bft_verify.proofs.Soundness.{shaped_from_sound}
 use Rattle.replica_core.specs.Cores.{Machine, with_state}
 use Rattle.run_words.specs.declared.logs.Entry.{Entry}
+use Rattle.run_words.specs.declared.logs.Trace.{Trace}
 use Rattle.run_words.specs.Journal.{Maker, event_of, state, AreSound}
+use Rattle.replica_log.specs.Replayed.{state_after, core_after}
 
 -- what the machine of a replica is after these entries
 abbrev pub replayed : Roster → ReplicaId → List Entry → Machine
@@ -66,3 +69,20 @@ pub comes_at : (m : Maker) (members : Roster) (journal : List Entry) (k : ℕ) (
 comes_at m members journal k e r lt is h =
     subst (λ (x : Entry). MayCome members (event_of x)) (sym is)
     (subst (λ (x : Roster). MayCome x (event_of (get_or journal k e))) r (sound_at m journal k e lt h))
+
+-- ---- of a trace
+
+state_is : (m : Maker) (r : Roster) (t : Trace) → m.roster ≡ r → m.id ≡ t.id → state m t.journal ≡ state_after r t
+unfolding state
+state_is m r t e f = λ i. state_of (e i) (f i) (map event_of t.journal)
+
+-- what a replay answers, of such members and such a journal
+pub replay_is : {E : Type 0} (result : Result Machine E) (m : Maker) (r s : Roster) (t : Trace) (journal : List Entry) → s ≡ r → journal ≡ t.journal
+    → m.roster ≡ r → m.id ≡ t.id
+    → IfOk result (λ core. (n : Maker) → n.roster ≡ s → n.id ≡ t.id → core ≡ record { roster = s; me = t.id; state = state n journal; shut = false })
+    → IfOk result (λ core. core ≡ core_after r t)
+replay_is (Ok core) m r s t journal a b e f h =
+    h m (e ∙ sym a) f
+    ∙ (λ i. record { roster = a i; me = t.id; state = state m (b i); shut = false })
+    ∙ ap (λ (x : Replica). record { roster = r; me = t.id; state = x; shut = false }) (state_is m r t e f)
+replay_is (Err x) m r s t journal a b e f h = tt

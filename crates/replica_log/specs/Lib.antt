@@ -3,4 +3,5 @@ pub mod Entering
 pub mod Keeping
 pub mod Leaving
 pub mod Logs
+pub mod Replayed
 pub mod Sending

@@ -2,7 +2,8 @@
 //!
 //! - [`replica_log`] makes a [`ReplicaLog`], which has done nothing. It is a [`Party`](run_words::Party), and its calls are that trait's: an act
 //!   makes the entry that the replica's machine makes after the journal, and what is left behind at the end is the trace of the journal.
-//! - [`replay`] makes the core that a replica has after a journal.
+//! - [`replay`] makes the core that a replica has after a journal, and [`replayed`] the one of the replica that left a trace. Which traces
+//!   can be replayed is `IsReplayable` (`specs/Replayed`).
 //!
 //! It knows no clock but its own (Lamport's), no socket and no thread: what it sends is a list of parcels. Where memory is refused in the
 //! middle of an act the journal stays and the log is shut, so each later act answers `NoMemory`. Emit takes all its memory before the
@@ -33,4 +34,4 @@ mod sending;
 
 pub use logs::ReplicaLog;
 pub use making::replica_log;
-pub use replaying::replay;
+pub use replaying::{replay, replayed};

@@ -9,12 +9,13 @@ ghost use Rattle.fab_rules.specs.Statements.{signature_of};
 ghost use Rattle.replica_core.specs.Cores as cores;
 ghost use Rattle.run_words.specs.Journal as journals;
 ghost use Rattle.run_words.specs.Journal.{Maker, state, IsMade, AreSound};
+ghost use Rattle.replica_log.specs.Replayed.{IsReplayable, core_after};
 
 use crate::making::fresh_core;
 use bft_msg::{Shaped, shape, signature};
 use fab_base::{Bytes, Duplicate, Members, Message, NoMemory, ReplicaId};
 use replica_core::{Core, Event};
-use run_words::Entry;
+use run_words::{Entry, Trace};
 use std::alloc::Global;
 
 /// A copy of the signature that a message bears: empty where it is of a kind that nobody signs.
@@ -104,4 +105,13 @@ pub fn replay(
             Err(NoMemory)
         }
     }
+}
+
+/// The core of the replica that left this trace, as it stood when it did: its journal is replayed. The trace is one that a member left
+/// whose machine makes the journal. It fails only where memory is refused.
+pub fn replayed(alloc: Global, members: &Members, trace: &Trace) -> Result<Core, NoMemory>
+    requires { IsReplayable members.now trace.now }
+    ensures { IfOk result (λ core. core ≡ core_after members.now trace.now) }
+{
+    replay(alloc, members.share()?, trace.id, trace.journal.as_slice())
 }

@@ -1,14 +1,15 @@
 use Rattle.std.proofs.Common.{◌&&◌, get_or, sym, ap, subst, take_all, ◌∙◌}
 use Rattle.std.specs.List.{list_all}
 use Rattle.std.proofs.lemmas.List.Folds.{list_all_at, list_all_more}
-use Rattle.fabric_audit.specs.Replayed.{IsReplayable}
+use Rattle.replica_log.specs.Replayed.{IsReplayable}
+use Rattle.run_worlds.specs.Scripts.{roster_of}
 use Rattle.fabric_audit.specs.Still.{is_still}
 use Rattle.fabric_audit.proofs.settling.are_still.Goals as goal
 
-pub is_still-requires-clause-kept : goal.is_still-requires-clause-kept
-is_still-requires-clause-kept c =
-    subst (IsReplayable c.args.script.now) (sym c.trace-item.is)
-    (c.requires.kept c.loop-trace.trace-index c.trace-item.result c.loop-trace-test.true)
+pub is_still-requires-clause-replayable : goal.is_still-requires-clause-replayable
+is_still-requires-clause-replayable c =
+    subst (IsReplayable (roster_of c.args.script.now)) (sym c.trace-item.is)
+    (c.requires.replayable c.loop-trace.trace-index c.trace-item.result c.loop-trace-test.true)
 
 pub loop-trace-preserved : goal.loop-trace-preserved
 loop-trace-preserved c =

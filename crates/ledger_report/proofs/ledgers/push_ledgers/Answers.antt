@@ -3,7 +3,7 @@ use Rattle.std.proofs.lemmas.Grind.{common_steps}
 use Rattle.std.specs.Option.{option_copied}
 use Rattle.fab_rules.specs.declared.blocks.Block.{Block}
 use Rattle.run_words.specs.declared.logs.Trace.{Trace}
-use Rattle.ledger_report.specs.Replayed.{ledger_after, longest_after, IsReplayable, IsLedgerOf}
+use Rattle.ledger_report.specs.Replayed.{ledger_after, longest_after, HasLedger, IsLedgerOf}
 use Rattle.ledger_report.proofs.Longest.{longer_taken, longest_stays}
 use Rattle.ledger_report.proofs.ledgers.push_ledgers.Goals as goal
 use Rattle.ledger_report.proofs.ledgers.push_ledgers.Goals.{then-blocks-most, else-blocks-most}
@@ -26,7 +26,7 @@ loop-trace-preserved c =
             lines = grind (arith, common_steps);
             longest =
                 subst (λ (b : Option (Bor Trace)). IsLedgerOf r (longest_after r (take (i + 1) all)) (option_copied b)) (sym w.best-is)
-                (subst (IsReplayable r) (sym c.trace-item.is) (c.requires i t within), sym taken);
+                (subst (HasLedger r) (sym c.trace-item.is) (c.requires i t within), sym taken);
             most = w.most-is ∙ came.blocks ∙ ap length (sym taken);
           }
       | else-blocks-most w ↦

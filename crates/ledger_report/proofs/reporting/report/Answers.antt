@@ -4,7 +4,7 @@ use Rattle.fab_base.specs.Limits.{Roster}
 use Rattle.run_words.specs.declared.logs.Trace.{Trace}
 use Rattle.run_worlds.specs.Scripts.{roster_of}
 use Rattle.ledger_report.specs.Report.{head_line}
-use Rattle.ledger_report.specs.Replayed.{IsReplayable}
+use Rattle.ledger_report.specs.Replayed.{HasLedger}
 use Rattle.ledger_report.proofs.Replicas.{run_told}
 use Rattle.ledger_report.proofs.Whole.{put_together}
 use Rattle.ledger_report.proofs.reporting.report.Goals as goal
@@ -13,8 +13,8 @@ pub push_ledgers-requires : goal.push_ledgers-requires
 push_ledgers-requires c =
     let t = c.args.transcript.now in
     let told = run_told t c.requires in
-    subst (λ (r : Roster). All (IsReplayable r) c.as_slice-traces.result.now) (sym c.in_ok-members.ensures)
-    (subst (λ (l : List Trace). All (IsReplayable (roster_of t.script)) l) (sym c.as_slice-traces.ensures) told.replayable)
+    subst (λ (r : Roster). All (HasLedger r) c.as_slice-traces.result.now) (sym c.in_ok-members.ensures)
+    (subst (λ (l : List Trace). All (HasLedger (roster_of t.script)) l) (sym c.as_slice-traces.ensures) told.have_ledgers)
 
 pub returns : goal.returns
 returns c =

@@ -1,5 +1,5 @@
-use Rattle.ledger_report.proofs.Replaying.{replay_is}
-use Rattle.ledger_report.proofs.ledgers.replayed.Goals as goal
+use Rattle.replica_log.proofs.Following.{replay_is}
+use Rattle.replica_log.proofs.replaying.replayed.Goals as goal
 
 pub returns : goal.returns
 returns c =
