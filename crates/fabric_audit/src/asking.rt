@@ -4,7 +4,7 @@ ghost use Rattle.std.specs.List.{list_all};
 ghost use Rattle.fab_rules.specs.Format.{request_fits};
 ghost use Rattle.script_keys.specs.Requests.{asked, asked_content};
 
-use fab_base::{Bytes, Duplicate, NoMemory, Request, Rows};
+use fab_base::{Bytes, NoMemory, Rows};
 use fault_script::Wish;
 use msg_spell::put_request_content;
 use std::alloc::Global;
@@ -14,12 +14,7 @@ fn asked_content(alloc: Global, wish: &Wish) -> Result<Bytes, NoMemory>
     requires { IsTrue (request_fits (asked wish.now [])) }
     ensures { IfOk result (λ content. content ≡ asked_content wish.now) }
 {
-    let request = Request {
-        client: wish.client,
-        stamp: wish.stamp,
-        op: wish.op.duplicate()?,
-        sig: Rows::new(alloc),
-    };
+    let request = wish.request(alloc)?;
     let mut content = Vec::new(alloc);
     let put = put_request_content(&mut content, &request);
     drop(request);

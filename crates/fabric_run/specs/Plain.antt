@@ -3,6 +3,7 @@ use Rattle.std.specs.Prelude.{◌≡◌, ℕ, List, [], ◌++◌, length, map, c
 use Rattle.fab_base.specs.declared.requests.Outcome.{Outcome}
 use Rattle.fab_base.specs.declared.requests.Request.{Request}
 use Rattle.fab_base.specs.Table.{State, empty_state, outcomes_of, state_after_all}
+use Rattle.fault_script.specs.Asking.{asked}
 use Rattle.fault_script.specs.declared.scripts.Script.{Script}
 use Rattle.fault_script.specs.declared.scripts.Wish.{Wish}
 use Rattle.fabric_run.specs.declared.exits.Exit.{Exit}
@@ -11,7 +12,7 @@ use Rattle.ledger_report.specs.Text.{reply_lines, table_text}
 
 -- a request, which `plain` leaves unsigned
 abbrev pub request_of : Wish → Request
-request_of wish = record { client = wish.client; stamp = wish.stamp; op = wish.op; sig = [] }
+request_of wish = asked wish []
 
 abbrev pub requests_of : Script → List Request
 requests_of script = map request_of script.requests

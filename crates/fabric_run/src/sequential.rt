@@ -1,29 +1,17 @@
 //! `plain`: a script's requests, applied in order to one table.
 ghost use Rattle.std.specs.Prelude.{◌≡◌, true, IfOk};
 ghost use Rattle.fault_script.specs.Scripts.{keeps_limits};
-ghost use Rattle.fabric_run.specs.Plain.{request_of, requests_of, plain_text, PlainMakes};
+ghost use Rattle.fabric_run.specs.Plain.{requests_of, plain_text, PlainMakes};
 ghost use Rattle.fabric_run.specs.Exits.{seen, Ends, IsRun};
 
 use crate::exits::Exit;
 use crate::transfer::{hand_over, script_from};
-use fab_base::{Batch, Bytes, NoMemory, Request, Rows};
+use fab_base::{Batch, Bytes, NoMemory, Rows};
 use fab_io::{Sink, Source};
-use fault_script::{Script, Wish};
+use fault_script::Script;
 use ledger_report::{push_done, push_replies, push_table};
 use seq_table::table;
 use std::alloc::Global;
-
-/// The request that a script has a client make, unsigned.
-fn request_of(alloc: Global, wish: Wish) -> Request
-    ensures { result ≡ request_of wish }
-{
-    Request {
-        client: wish.client,
-        stamp: wish.stamp,
-        op: wish.op,
-        sig: Rows::new(alloc),
-    }
-}
 
 /// The requests of a script, in its order.
 fn requests_of(alloc: Global, script: Script) -> Result<Batch, NoMemory>
@@ -32,7 +20,7 @@ fn requests_of(alloc: Global, script: Script) -> Result<Batch, NoMemory>
     let wishes = script.requests.into_vec();
     let mut requests = Vec::with_capacity(alloc, wishes.len())?;
     for wish in wishes {
-        requests.push(request_of(alloc, wish))?;
+        requests.push(wish.into_request(alloc))?;
     }
     Ok(Rows::from_vec(requests))
 }

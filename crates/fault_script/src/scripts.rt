@@ -1,5 +1,9 @@
 //! What a script declares.
-use fab_base::{Bytes, ClientId, Op, Rows};
+ghost use Rattle.std.specs.Prelude.{◌≡◌, [], IfOk};
+ghost use Rattle.fault_script.specs.Asking.{asked};
+
+use fab_base::{Bytes, ClientId, Duplicate, NoMemory, Op, Request, Rows};
+use std::alloc::Global;
 
 /// A request that a script has a client make. Its stamp is its number among the client's requests.
 #[derive(Debug, Drop)]
@@ -10,6 +14,32 @@ pub struct Wish {
     pub stamp: u32,
     /// What is asked for.
     pub op: Op,
+}
+
+impl Wish {
+    /// The request that is asked for, which nobody has signed yet. Takes no memory.
+    pub fn into_request(self, alloc: Global) -> Request
+        ensures { result ≡ asked self [] }
+    {
+        Request {
+            client: self.client,
+            stamp: self.stamp,
+            op: self.op,
+            sig: Rows::new(alloc),
+        }
+    }
+
+    /// The same, with a copy of the operation. It fails only where memory is refused.
+    pub fn request(&self, alloc: Global) -> Result<Request, NoMemory>
+        ensures { IfOk result (λ request. request ≡ asked self.now []) }
+    {
+        let wish = Wish {
+            client: self.client,
+            stamp: self.stamp,
+            op: self.op.duplicate()?,
+        };
+        Ok(wish.into_request(alloc))
+    }
 }
 
 /// The requests of a script, in its order.

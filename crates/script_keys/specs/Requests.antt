@@ -5,6 +5,7 @@ use Rattle.fab_base.specs.declared.ids.Who.TheVariants.{Client}
 use Rattle.fab_base.specs.declared.requests.Request.{Request}
 use Rattle.fab_base.specs.declared.messages.Message.{Message}
 use Rattle.fab_rules.specs.Spelling.{spelling_of, content_of}
+pub use Rattle.fault_script.specs.Asking.{asked}
 use Rattle.fault_script.specs.declared.scripts.Script.{Script}
 use Rattle.fault_script.specs.declared.scripts.Wish.{Wish}
 use Rattle.lms_tree.specs.Keys.{TreeKey}
@@ -12,10 +13,6 @@ use Rattle.lms_tree.specs.Signatures.{leaf_signature}
 use Rattle.run_words.specs.declared.logs.Origin.{Origin}
 use Rattle.run_words.specs.declared.logs.Pending.{Pending}
 use Rattle.script_keys.specs.Keys.{key_of, members_of}
-
--- what is asked for, with this signature
-abbrev pub asked : Wish → List ℕ → Request
-asked wish signature = record { client = wish.client; stamp = wish.stamp; op = wish.op; sig = signature }
 
 -- what is signed of it. No content has a signature of its own
 abbrev pub asked_content : Wish → List ℕ

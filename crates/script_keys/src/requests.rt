@@ -6,7 +6,7 @@ ghost use Rattle.lms_tree.specs.declared.heights.Height.TheVariants.{H5};
 ghost use Rattle.script_keys.specs.Keys.{client_keys_of};
 ghost use Rattle.script_keys.specs.Requests.{request_by, requests_of};
 
-use fab_base::{Duplicate, NoMemory, Request, Rows};
+use fab_base::{NoMemory, Request, Rows};
 use fault_script::{Script, Wish};
 use lms_tree::{Key, sign_leaf};
 use msg_spell::put_request_content;
@@ -20,12 +20,7 @@ fn request_by(alloc: Global, key: &Key, wish: &Wish) -> Result<Request, NoMemory
     requires op { IsTrue (op_fits wish.now.op) }
     ensures { IfOk result (λ request. request ≡ request_by key.now wish.now) }
 {
-    let mut request = Request {
-        client: wish.client,
-        stamp: wish.stamp,
-        op: wish.op.duplicate()?,
-        sig: Rows::new(alloc),
-    };
+    let mut request = wish.request(alloc)?;
     let mut content = Vec::new(alloc);
     put_request_content(&mut content, &request)?;
     request.sig = sign_leaf(alloc, key, wish.stamp - 1, &content)?;
