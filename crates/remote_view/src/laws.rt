@@ -1,13 +1,16 @@
-//! What the answers are worth, over any list of calls.
-ghost use Rattle.std.specs.Prelude.{◌≡◌, ◌≤◌, ◌+◌, ℕ, Bool, List};
+//! What the answers are worth, over any list of calls, and which pleas an answer doesn't need.
+ghost use Rattle.std.specs.Prelude.{◌≡◌, ◌≤◌, ◌+◌, ℕ, Bool, true, false, List, if◌then◌else◌};
 ghost use Rattle.fab_base.specs.Quorums.{greatest_faulty, IsQuorum, AreMembers};
 ghost use Rattle.fab_base.specs.Roster.{size_of};
 ghost use Rattle.fab_base.specs.declared.messages.Plea.{Plea};
+ghost use Rattle.remote_view.specs.declared.heard.Heard.{Heard};
 ghost use Rattle.remote_view.specs.declared.heard.Matter.{Matter};
 ghost use Rattle.remote_view.specs.declared.plight.Plight.{Plight};
-ghost use Rattle.remote_view.specs.Heard.{members_on};
-ghost use Rattle.remote_view.specs.Pleading.{Pleading, IsPleading, MayHearDrvc, MayHearRvc, drvc_of, rvc_of, drvc_plight, rvc_plight, after_drvc, after_rvc};
+ghost use Rattle.remote_view.specs.Heard.{has_matter, was_heard, number_on, members_on};
+ghost use Rattle.remote_view.specs.Plights.{rvc_plight_at};
+ghost use Rattle.remote_view.specs.Pleading.{Pleading, IsPleading, MayHearDrvc, MayHearRvc, drvc_of, rvc_of, some_correct, drvc_plight, is_past, rvc_plight, after_drvc, after_rvc};
 ghost use Rattle.remote_view.specs.Calls.{Call, MayCome, after_call, sends, starts, says, times};
+ghost use Rattle.remote_view.specs.Forgetting.{opened, unanswered};
 
 /// The law of once. Over any list of calls, from whatever was heard and said before: `Send` is answered at most once for each target,
 /// round and count (`send`), `Start` at most once for each asking cluster and count (`start`), and a replica is told at most once to say
@@ -32,4 +35,17 @@ pub fn members_law()
     ensures start { (s : Pleading) (plea : Plea) → IsPleading s → MayHearRvc s plea → rvc_plight s (rvc_of plea) ≡ Plight.Start
         → let n = size_of s.roster plea.signer.cluster in
         AreMembers n (greatest_faulty n + 1) (members_on n (after_rvc s (rvc_of plea)).rvcs (rvc_of plea).matter) }
+{}
+
+/// The law of forgetting (ours). A matter that nobody will be asked about again, since its certificate is kept, may be let go: what is
+/// left of the Drvcs and of what was said answers each Drvc on another matter as all of it does (`drvc`), and tells as well whether this
+/// replica said its own (`said`). So may the Rvcs that are past: one that isn't is answered by the others alone (`rvc`). Whoever lets
+/// pleas go keeps the counts of the clusters beside them, since a count is read off all that were heard. No call lets go of any yet.
+pub fn forgetting_law()
+    ensures drvc { (s : Pleading) (is_open : Matter → Bool) (plea : Heard) → is_open plea.matter ≡ true
+        → drvc_plight (opened is_open s) plea ≡ drvc_plight s plea }
+    ensures said { (s : Pleading) (is_open : Matter → Bool) (matter : Matter) → is_open matter ≡ true
+        → has_matter (opened is_open s).said matter ≡ has_matter s.said matter }
+    ensures rvc { (s : Pleading) (plea : Heard) → is_past s plea ≡ false
+        → rvc_plight s plea ≡ (if was_heard (unanswered s) plea then Plight.Twice else rvc_plight_at (some_correct s plea.matter.cluster) (number_on (unanswered s) plea.matter + 1)) }
 {}

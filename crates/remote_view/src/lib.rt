@@ -13,7 +13,8 @@
 //!
 //! What a contract sees is a `Pleading` (`specs/Pleading.antt`): the lists of the pleas that count, in the order of hearing, and of what
 //! was said. The counts are read off these lists (`specs/Heard.antt`), and each call is a function of the pleading. `once_law` says that
-//! nothing is answered twice, over any list of calls; `members_law` who stands behind an answer. Signatures aren't looked at.
+//! nothing is answered twice, over any list of calls; `members_law` who stands behind an answer; `forgetting_law` which pleas an answer
+//! doesn't need. The lemmas of `proofs/Matters.antt` and `proofs/Worth.antt` may be cited. Signatures aren't looked at.
 #![tactic(auto)]
 
 mod book;
@@ -24,7 +25,7 @@ mod pleading;
 mod plight;
 
 pub use fab_base::NoMemory;
-pub use laws::{members_law, once_law};
+pub use laws::{forgetting_law, members_law, once_law};
 pub use making::pleas;
 pub use pleading::Pleas;
 pub use plight::Plight;
