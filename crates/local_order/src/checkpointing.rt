@@ -164,7 +164,7 @@ impl State {
             → self.new ≡ moved self.old (heard_again self.old.roster self.old.me (unmoved self.old.local answer) messages).local) }
         ensures same { IsSame self.old self.new }
     {
-        // A replica that is a member of its cluster.
+        // For the proof: the replica is a member of its cluster.
         let _ = &self.me;
         let mut outs = Outs::new(self.alloc());
         for message in messages.into_vec() {

@@ -29,6 +29,8 @@
 //! whole `requests`, `votes`, `certificates`, `changes`, `notes`, `pleas` and `messages`. Each has the tests and the writing of its kinds,
 //! what is signed apart from the signature. `contents` and `digests` are what others call.
 //!
+//! A line that only reads a field, as `let _stamp = self.stamp;`, stands for the proof alone: what is read is within its type.
+//!
 //! `proofs/Lengths` bounds the length of every spelling: only a new view of ten changes may be too long for a message.
 #![tactic(auto)]
 

@@ -39,7 +39,7 @@ pub fn replica_log<S: Signer + Drop>(
     requires fits { (k : ℕ) (content : List ℕ) → k < S.limit signer → signature_fits (S.gives signer k content) ≡ true }
     ensures { IfOk result (λ log. log ≡ fresh_log members ring me signer) }
 {
-    // Members are within the limits of a fabric.
+    // For the proof: the members are within the limits of a fabric.
     let _clusters = members.clusters();
     let core = match fresh_core(alloc, &members, me) {
         Ok(core) => core,

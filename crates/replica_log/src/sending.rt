@@ -52,6 +52,7 @@ fn has_leaf<S: Signer>(signer: &S) -> bool
     ensures some { result ≡ true → S.made signer.now < S.limit signer.now }
     ensures none { result ≡ false → S.made signer.now ≡ S.limit signer.now }
 {
+    // For the proof: no more leaves were used than there are.
     let _used = signer.used();
     !signer.spent()
 }
