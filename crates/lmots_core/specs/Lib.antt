@@ -2,3 +2,4 @@ pub mod Parameters
 pub mod Digits
 pub mod Chains
 pub mod OneTime
+pub mod Running

@@ -26,6 +26,7 @@ mod laws;
 mod public_keys;
 mod seed;
 mod signatures;
+mod steps;
 
 pub use candidates::candidate;
 pub use digits::{checksum, coef};

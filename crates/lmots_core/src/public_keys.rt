@@ -1,10 +1,13 @@
 //! One-time public keys (RFC 8554, section 4.3).
-ghost use Rattle.std.specs.Prelude.{◌≡◌, ◌++◌, [], ◌∷◌};
+ghost use Rattle.std.specs.Prelude.{◌≡◌, ℕ, List, ◌<◌, ◌++◌, [], ◌∷◌, length, slice_index};
 ghost use Rattle.std.specs.Int.{w32, to_be_bytes};
 ghost use Rattle.sha2.specs.Hashers.{Holds256};
+ghost use Rattle.sha_lanes.specs.Lanes.{vector};
+ghost use Rattle.lmots_core.specs.Parameters.{chain_count, top_digit};
+ghost use Rattle.lmots_core.specs.Chains.{joined};
 ghost use Rattle.lmots_core.specs.OneTime.{public_key};
 
-use crate::chains::{chain, chain_start};
+use crate::chains::{run, starts};
 use crate::kind::OtsKind;
 use crate::seed::OtsSeed;
 use sha2::{Digest, Sha256};
@@ -23,18 +26,54 @@ pub(crate) fn key_hasher(id: &[u8; 16], q: u32) -> Sha256
     hasher
 }
 
+// Feeds values into a hasher.
+pub(crate) fn feed_values(hasher: &mut Sha256, values: &[[u8; 32]])
+    ensures { (front : List ℕ) → Holds256 hasher.old front → Holds256 hasher.new (front ++ joined (vector values.now) (length values.now)) }
+{
+    'values: for i in 0..values.len() {
+        hasher.update(&values[i]);
+    }
+}
+
+// The public key, with a table of the kind's size to run the chains in.
+fn key_in(
+    seed: &OtsSeed,
+    q: u32,
+    kind: OtsKind,
+    values: &mut [[u8; 32]],
+    places: &mut [u8],
+    goals: &[u8],
+) -> [u8; 32]
+    requires values { length values.old ≡ chain_count kind }
+    requires places { length places.old ≡ chain_count kind }
+    requires goals { length goals.now ≡ chain_count kind }
+    requires first { (i : ℕ) → i < chain_count kind → slice_index places.old i ≡ 0 }
+    requires last { (i : ℕ) → i < chain_count kind → slice_index goals.now i ≡ top_digit kind }
+    ensures { result ≡ public_key kind seed.now q }
+{
+    starts(seed, q, values);
+    run(&seed.id, q, values, places, goals);
+    let mut hasher = key_hasher(&seed.id, q);
+    feed_values(&mut hasher, values);
+    hasher.finalize()
+}
+
 /// The one-time public key K of leaf `q` (RFC 8554, section 4.3), with its chains started by the
-/// rule of appendix A. It takes no memory: each chain runs in 32 bytes, and its end is hashed as it
-/// comes.
-#[tactic(auto, unfolding(crate::specs::OneTime::key_of_ends))]
+/// rule of appendix A. It takes no memory: the chains run in a table on the stack, which is 9 KB for
+/// any kind.
 pub fn public_of(seed: &OtsSeed, q: u32, kind: OtsKind) -> [u8; 32]
     ensures { result ≡ public_key kind seed.now q }
 {
-    let mut hasher = key_hasher(&seed.id, q);
-    for i in 0..kind.chain_count() {
-        let start = chain_start(seed, q, i);
-        let end = chain(&seed.id, q, i, 0, kind.top_digit(), start);
-        hasher.update(&end);
-    }
-    hasher.finalize()
+    let count = usize::from(kind.chain_count());
+    let mut values = [[0u8; 32]; 265];
+    let mut places = [0u8; 265];
+    let goals = [kind.top_digit(); 265];
+    key_in(
+        seed,
+        q,
+        kind,
+        &mut values[..count],
+        &mut places[..count],
+        &goals[..count],
+    )
 }

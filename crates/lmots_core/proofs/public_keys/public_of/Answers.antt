@@ -1,20 +1,15 @@
-use Rattle.std.proofs.Common.{◌≡◌, [], ◌∷◌, ◌++◌, ◌∙◌, refl}
-use Rattle.std.specs.Int.{w32, to_be_bytes}
-use Rattle.lmots_core.specs.Chains.{chain_end}
-use Rattle.lmots_core.proofs.ChainLemmas.{chain_from_first, held_more, held_none}
+use Rattle.std.proofs.Common.{◌≡◌, ◌<◌, ◌∙◌, arith}
+use Rattle.lmots_core.proofs.LeafLemmas.{all_same, count_le}
 use Rattle.lmots_core.proofs.public_keys.public_of.Goals as goal
 
-pub loop-i-init : goal.loop-i-init
-loop-i-init c =
-    let front = c.args.seed.now.id ++ to_be_bytes w32 c.args.q ++ 0x80 ∷ 0x80 ∷ [] in
-    held_none c.key_hasher-hasher.result front (chain_end c.args.kind c.args.seed.now c.args.q) c.key_hasher-hasher.ensures
+pub key_in-requires-clause-first : goal.key_in-requires-clause-first
+key_in-requires-clause-first c = λ i lt.
+    let e = c.from-count.ensures in
+    let f = c.chain_count.ensures in
+    all_same 265 c.from-count.result 0 i (omega (arith, e, f)) (omega (arith, e, f, count_le c.args.kind))
 
-pub loop-i-preserved : goal.loop-i-preserved
-loop-i-preserved c =
-    let front = c.args.seed.now.id ++ to_be_bytes w32 c.args.q ++ 0x80 ∷ 0x80 ∷ [] in
-    let end : c.chain-end.result ≡ chain_end c.args.kind c.args.seed.now c.args.q c.loop-i.i =
-    c.chain-end.ensures
-    ∙ chain_from_first c.args.seed.now.id c.args.q c.loop-i.i c.top_digit.result c.chain_start-start.result
-    ∙ rw (c.top_digit.ensures, c.chain_start-start.ensures) refl in
-    held_more c.update.new.self front (chain_end c.args.kind c.args.seed.now c.args.q) c.loop-i.i c.chain-end.result end
-    (c.update.ensures _ c.loop-i.invariant)
+pub key_in-requires-clause-last : goal.key_in-requires-clause-last
+key_in-requires-clause-last c = λ i lt.
+    let e = c.from-count.ensures in
+    let f = c.chain_count.ensures in
+    all_same 265 c.from-count.result c.top_digit-goals.result i (omega (arith, e, f)) (omega (arith, e, f, count_le c.args.kind)) ∙ c.top_digit-goals.ensures

@@ -1,0 +1,4 @@
+pub mod QuadLemmas
+pub mod RoundLemmas
+pub mod HashLemmas
+mod ChMaj
