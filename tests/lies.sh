@@ -18,7 +18,8 @@ set -u
 export LC_ALL=C.UTF-8
 top=$(cd "$(dirname "$(readlink -f "${BASH_SOURCE[0]}")")/.." && pwd)
 work=$(mktemp -d)
-trap 'rm -rf "$work"' EXIT
+trap 'kill $(jobs -p) 2>/dev/null; rm -rf "$work"' EXIT
+trap 'exit 130' INT TERM
 
 # The sum of a crate's own text: the files of src/, specs/ and proofs/ in the order of their names' bytes, and its line of crates.txt.
 own_sum() {
