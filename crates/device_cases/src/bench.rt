@@ -2,8 +2,6 @@
 use crate::told::Told;
 use fab_io::{Got, MemSink, MemSource, ReadSource, Sink, Source, Sunk, WriteSink};
 use fab_rows::{NoMemory, Numbers, Rows};
-use fabric_run::fabric;
-use run_words::Transcript;
 use std::alloc::Global;
 
 /// The device that calls speak of.
@@ -16,11 +14,10 @@ enum Device {
     Writer(WriteSink<Told>),
 }
 
-/// A device, and a script.
+/// The device that stands on it.
 #[derive(Drop)]
 pub(crate) struct Bench {
     device: Device,
-    script: Vec<u8>,
 }
 
 /// How many bytes a device moves in a call, and which call fails.
@@ -31,20 +28,15 @@ struct Pace<'a> {
 }
 
 impl Bench {
-    /// There is no device, and the script is empty.
-    pub(crate) fn new(alloc: Global) -> Bench {
+    /// There is no device.
+    pub(crate) fn new() -> Bench {
         Bench {
             device: Device::None,
-            script: Vec::new(alloc),
         }
     }
 
     /// The answer to a call. `Err` comes only where memory is refused.
     pub(crate) fn answer(&mut self, alloc: Global, call: &str) -> Result<String, NoMemory> {
-        if let Some(lines) = call.strip_prefix("script ") {
-            self.script = lines.replace(alloc, " / ", "\n")?.into_bytes();
-            return String::from_str(alloc, "made");
-        }
         let words: Vec<&str> = call.split(' ').collect(alloc)?;
         match words.as_slice() {
             ["source", bytes, piece, failing] => {
@@ -67,24 +59,6 @@ impl Bench {
             ["read", room] => return self.read(alloc, number(room)),
             ["write", piece] => return self.write(alloc, piece.as_bytes()),
             ["taken"] => return self.taken(alloc),
-            [
-                "run",
-                reads,
-                failing_read,
-                writes,
-                failing_write,
-                words @ ..,
-            ] => {
-                let reads = Pace {
-                    piece: reads,
-                    failing: failing_read,
-                };
-                let writes = Pace {
-                    piece: writes,
-                    failing: failing_write,
-                };
-                return self.run(alloc, reads, writes, words);
-            }
             _ => return String::from_str(alloc, "unreadable"),
         }
         String::from_str(alloc, "made")
@@ -112,32 +86,6 @@ impl Bench {
             Device::Sink(sink) => shown(alloc, sink.taken()),
             _ => String::from_str(alloc, "no sink in memory"),
         }
-    }
-
-    /// The top call over the script, and a sink of 10,000 bytes, which stays.
-    fn run(
-        &mut self,
-        alloc: Global,
-        reads: Pace<'_>,
-        writes: Pace<'_>,
-        words: &[&str],
-    ) -> Result<String, NoMemory> {
-        let mut spelled = Vec::new(alloc);
-        for word in words {
-            spelled.push(String::from_str(alloc, word)?)?;
-        }
-        let mut script = source(alloc, self.script.as_slice().to_vec(alloc)?, reads)?;
-        let mut report = sink(alloc, 10_000, writes)?;
-        let mut kept = Transcript::empty(alloc);
-        let exit = fabric(
-            alloc,
-            spelled.as_slice(),
-            &mut script,
-            &mut report,
-            &mut kept,
-        );
-        self.device = Device::Sink(report);
-        format!(in alloc; "{exit:?}")
     }
 }
 
@@ -189,14 +137,11 @@ fn write_to<K: Sink>(alloc: Global, sink: &mut K, piece: &[u8]) -> Result<String
     }
 }
 
-/// Bytes as text, ` /` for each line's end.
+/// Bytes as text.
 fn shown(alloc: Global, bytes: &[u8]) -> Result<String, NoMemory> {
     let mut text = String::new(alloc);
     for byte in bytes {
-        match byte {
-            b'\n' => text.push_str(" / ")?,
-            _ => text.push(char::from(*byte))?,
-        }
+        text.push(char::from(*byte))?;
     }
-    String::from_str(alloc, text.as_str().trim_end())
+    Ok(text)
 }

@@ -1,4 +1,4 @@
-//! Drives devices and the top call as a text tells, and compares each answer with the one that the text expects.
+//! Drives devices as a text tells, and compares each answer with the one that the text expects.
 //!
 //! Standard input has a call in each line, and behind ` -> ` its answer; a line that begins with `#` is a comment. A device stays the
 //! one that calls speak of until the next is made. Each answer that differs is printed, and at the end the number of those that don't.
@@ -11,8 +11,6 @@
 //! | `read ROOM -> ANSWER` | a read into a room of so many bytes: the bytes, `end` or `failed` |
 //! | `write BYTES -> ANSWER` | a write: the number of bytes taken, or `failed` |
 //! | `taken -> BYTES` | what a sink in memory took, or `nothing` |
-//! | `script LINES` | the script that `run` is given, ` / ` for each line's end |
-//! | `run PIECE FAILING PIECE FAILING WORDS -> EXIT` | the top call over a source of the script and a sink, each with its piece and its failing call |
 #![tactic(auto)]
 
 mod bench;
@@ -23,7 +21,7 @@ use std::io;
 
 fn main(rt: HostRuntime) -> io::Result<()> {
     let alloc = rt.alloc();
-    let mut bench = Bench::new(alloc);
+    let mut bench = Bench::new();
     let mut as_said = 0u64;
     for line in rt.lines(alloc) {
         let line = line?;
