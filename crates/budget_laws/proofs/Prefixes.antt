@@ -59,7 +59,7 @@ at_step script n = transcript (script_rules script) (after (script_rules script)
 pub run_of : (script : Script) (n : ℕ) → keeps_limits script ≡ true → IsRunOf script (transcript (script_rules script) (after (script_rules script) n))
 run_of script n limits =
     let s = sane script limits in
-    record { limits = limits; lawful = lawful_of (script_rules script) (after (script_rules script) n) s.apart (after_well (script_rules script) n s) }
+    record { limits = limits; lawful = lawful_of (script_rules script) (after (script_rules script) n) s.apart (after_well (script_rules script) n s).fair }
 
 -- ---- a step adds one entry at most to a journal
 

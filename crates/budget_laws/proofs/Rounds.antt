@@ -35,7 +35,7 @@ use Rattle.run_words.specs.Lawful.{AreEach}
 use Rattle.run_words.specs.declared.logs.Entry.{Entry}
 use Rattle.run_words.specs.declared.logs.Transcript.{Transcript}
 use Rattle.run_words.proofs.Counts.{IsIn}
-use Rattle.run_words.proofs.Keeping.{AreStill, IsWell, after_well}
+use Rattle.run_words.proofs.Keeping.{AreStill, IsWell, after_well, heard_of, sent_of}
 use Rattle.run_words.proofs.Replays.{fresh_is}
 use Rattle.script_keys.specs.Keys.{leaves_of, replicas_of, height_of}
 use Rattle.script_keys.proofs.Wishes.{asked_in}
@@ -58,7 +58,7 @@ use Rattle.budget_laws.proofs.Asked.{stamps_among, member_known, home_is, reques
 use Rattle.budget_laws.proofs.Journals.{journal_at, diary_at, first_of_all, batches_by, HasBatch, one_step}
 use Rattle.budget_laws.proofs.Moments.{step_of}
 use Rattle.budget_laws.proofs.Prefixes.{at_step, run_of, no_clash_before, thrifty}
-use Rattle.budget_laws.proofs.Stillness.{heard_then, sent_then, idle_then}
+use Rattle.budget_laws.proofs.Stillness.{idle_then}
 use Rattle.budget_laws.proofs.Sums.{go_below, go_last}
 use Rattle.budget_laws.proofs.Voicing.{next_opened, spent_opened}
 
@@ -286,9 +286,9 @@ module _ (script : Script) (limits : keeps_limits script ≡ true) (one : length
             ]
             | inr left ↦ (let quiet : IsStill (at_step script n) =
                 record {
-                  all_heard = heard_then rules (after rules n) (sane script limits) (well n) still;
-                  sent = sent_then rules (after rules n) (sane script limits) (well n) still;
-                  idle = idle_then rules (after rules n) (sane script limits) (well n) still;
+                  all_heard = heard_of rules (after rules n) (sane script limits).apart (well n).fair still;
+                  sent = sent_of rules (after rules n) still;
+                  idle = idle_then rules (after rules n) still;
                 } in
                 let last = last_eligible (t n) (run n) one some quiet (unspent n none filled) (clean n none) c lt left in
                 let there = stamps_among c (count_of c script.requests) (eligible (state_at (t n) 0).local) (requests_said (full_at (t (suc n)) 0)) (λ x h. among x (inr h)) last in

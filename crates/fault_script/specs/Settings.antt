@@ -1,25 +1,58 @@
 -- The settings of a script (ours): numbers that a line may set, each once; until one does, each has its default.
-use Rattle.std.specs.Prelude.{ℕ, ◌-◌, ◌^◌, ◌&&◌, ◌||◌, Bool, true, false, nat_eq, nat_lt, min, List, codes, Result, Ok, Err, if◌then◌else◌}
+use Rattle.std.specs.Prelude.{ℕ, ◌-◌, ◌^◌, ◌&&◌, ◌||◌, Bool, true, false, nat_eq, nat_lt, min, List, codes, Option, Some, None, Result, Ok, Err, if◌then◌else◌}
 use Rattle.fab_base.specs.declared.limits.TheConstants.{MOST_REQUESTS, MOST_SLOTS}
 use Rattle.fault_script.specs.declared.faults.Why.{Why}
 use Rattle.fault_script.specs.declared.faults.Why.TheVariants.{BadWord, OutOfRange, Double}
 use Rattle.fault_script.specs.declared.settings.TheConstants.{MOST_TURNS}
 use Rattle.fault_script.specs.declared.settings.Setting.{Setting}
+use Rattle.fault_script.specs.declared.table.Kind.{Kind}
+use Rattle.fault_script.specs.declared.table.Row.{Row}
 use Rattle.fault_script.specs.Checks.{and_then}
-use Rattle.fault_script.specs.Words.{same_word, one_word}
-use Rattle.fault_script.specs.Fields.{is_within, number, one_number}
+use Rattle.fault_script.specs.Words.{same_word}
+use Rattle.fault_script.specs.Fields.{is_within, one_number}
+
+-- ---- the table
+
+-- the setting whose line begins with this word
+abbrev pub kind_of_word : List ℕ → Option Kind
+kind_of_word word =
+    if same_word word (codes "batch") then Some Kind.Batch
+    else if same_word word (codes "window") then Some Kind.Window
+    else if same_word word (codes "interval") then Some Kind.Interval
+    else if same_word word (codes "seed") then Some Kind.Seed
+    else if same_word word (codes "turns") then Some Kind.Turns
+    else if same_word word (codes "height") then Some Kind.Height
+    else None
+
+-- the least and the greatest number that a line may set, and the number that holds where none does
+abbrev pub row_of : Kind → Row
+row_of Kind.Batch = record { least = 1; greatest = MOST_REQUESTS; default = 8 }
+row_of Kind.Window = record { least = 1; greatest = MOST_SLOTS; default = 16 }
+row_of Kind.Interval = record { least = 1; greatest = MOST_SLOTS; default = 8 }
+row_of Kind.Seed = record { least = 0; greatest = 2 ^ 64 - 1; default = 0 }
+row_of Kind.Turns = record { least = 1; greatest = MOST_TURNS; default = 100000 }
+row_of Kind.Height = record { least = 5; greatest = 10; default = 10 }
+
+-- the heights that a key's tree may have
+abbrev pub is_height : ℕ → Bool
+is_height n = nat_eq n 5 || nat_eq n 10
+
+-- whether a number of the range may be set
+abbrev pub is_allowed : Kind → ℕ → Bool
+is_allowed Kind.Height n = is_height n
+is_allowed kind n = true
+
+-- ---- one setting
 
 -- until a line sets it
-abbrev pub unset : ℕ → Setting
-unset default = record { value = default; given = false }
+abbrev pub unset : Kind → Setting
+unset kind = record { value = (row_of kind).default; given = false }
 
 -- a number is set just once
 abbrev pub set_once : Setting → ℕ → Result Setting Why
 set_once before n = if before.given then Err Double else Ok (record { value = n; given = true })
 
--- the whole of a line that sets a number between two limits
-abbrev pub set_within : ℕ → ℕ → Setting → List (List ℕ) → Result Setting Why
-set_within low high before words = and_then (one_number low high words) (set_once before)
+-- ---- all of them
 
 pub record Settings : Type 0 where
   pub batch : Setting
@@ -31,61 +64,72 @@ pub record Settings : Type 0 where
 
 -- until a line sets one
 abbrev pub default_settings : Settings
-default_settings = record { batch = unset 8; window = unset 16; interval = unset 8; seed = unset 0; turns = unset 100000; height = unset 10 }
+default_settings = record {
+  batch = unset Kind.Batch;
+  window = unset Kind.Window;
+  interval = unset Kind.Interval;
+  seed = unset Kind.Seed;
+  turns = unset Kind.Turns;
+  height = unset Kind.Height;
+}
 
--- `batch B`
-abbrev pub batch_line : Settings → List (List ℕ) → Result Settings Why
-batch_line settings words = and_then (set_within 1 MOST_REQUESTS settings.batch words) (λ batch. Ok (record settings { batch = batch }))
+abbrev pub setting_of : Settings → Kind → Setting
+setting_of settings Kind.Batch = settings.batch
+setting_of settings Kind.Window = settings.window
+setting_of settings Kind.Interval = settings.interval
+setting_of settings Kind.Seed = settings.seed
+setting_of settings Kind.Turns = settings.turns
+setting_of settings Kind.Height = settings.height
+
+abbrev pub with_set : Settings → Kind → Setting → Settings
+with_set settings Kind.Batch setting = record settings { batch = setting }
+with_set settings Kind.Window setting = record settings { window = setting }
+with_set settings Kind.Interval setting = record settings { interval = setting }
+with_set settings Kind.Seed setting = record settings { seed = setting }
+with_set settings Kind.Turns setting = record settings { turns = setting }
+with_set settings Kind.Height setting = record settings { height = setting }
+
+-- ---- a line
 
 -- the least window that a line may still set: an interval that a line above set is to fit into it
 abbrev pub least_window : Settings → ℕ
-least_window settings = if settings.interval.given then settings.interval.value else 1
+least_window settings = if settings.interval.given then settings.interval.value else (row_of Kind.Window).least
 
--- `window L`: no less than the interval, where a line above set it
-abbrev pub window_line : Settings → List (List ℕ) → Result Settings Why
-window_line settings words = and_then (set_within (least_window settings) MOST_SLOTS settings.window words) (λ window. Ok (record settings { window = window }))
+-- the least number that a line may set
+abbrev pub least_now : Settings → Kind → ℕ
+least_now settings Kind.Window = least_window settings
+least_now settings kind = (row_of kind).least
 
--- `interval K`: no more than the window, which is its default where no line above set it
-abbrev pub interval_line : Settings → List (List ℕ) → Result Settings Why
-interval_line settings words = and_then (set_within 1 settings.window.value settings.interval words) (λ interval. Ok (record settings { interval = interval }))
+-- the greatest: an interval is no more than the window, which is its default where no line above set it
+abbrev pub greatest_now : Settings → Kind → ℕ
+greatest_now settings Kind.Interval = settings.window.value
+greatest_now settings kind = (row_of kind).greatest
+
+abbrev pub allowed : Kind → ℕ → Result ℕ Why
+allowed kind n = if is_allowed kind n then Ok n else Err OutOfRange
+
+-- `WORD N`: just one word, which spells a number that may be set, and no line above set one
+abbrev pub setting_line : Settings → Kind → List (List ℕ) → Result Settings Why
+setting_line settings kind words =
+    and_then (one_number (least_now settings kind) (greatest_now settings kind) words) (λ n.
+    and_then (allowed kind n) (λ n.
+    and_then (set_once (setting_of settings kind) n) (λ setting.
+    Ok (with_set settings kind setting))))
+
+-- a first word that begins no setting's line is unknown
+abbrev pub line_of_setting : Settings → List (List ℕ) → Option Kind → Result Settings Why
+line_of_setting settings words None = Err BadWord
+line_of_setting settings words (Some kind) = setting_line settings kind words
+
+-- the first word of a line decides which setting it sets
+abbrev pub setting_of_kind : Settings → List ℕ → List (List ℕ) → Result Settings Why
+setting_of_kind settings kind words = line_of_setting settings words (kind_of_word kind)
+
+-- ---- in the end
 
 -- the interval in the end: what a line set, else the lesser of its default and the window
 abbrev pub interval_of : Settings → ℕ
 interval_of settings = if settings.interval.given then settings.interval.value else min settings.interval.value settings.window.value
-
--- `seed S`: any number
-abbrev pub seed_line : Settings → List (List ℕ) → Result Settings Why
-seed_line settings words = and_then (set_within 0 (2 ^ 64 - 1) settings.seed words) (λ seed. Ok (record settings { seed = seed }))
-
--- `turns T`
-abbrev pub turns_line : Settings → List (List ℕ) → Result Settings Why
-turns_line settings words = and_then (set_within 1 MOST_TURNS settings.turns words) (λ turns. Ok (record settings { turns = turns }))
-
--- the heights that a key's tree may have
-abbrev pub is_height : ℕ → Bool
-is_height n = nat_eq n 5 || nat_eq n 10
-
-abbrev pub height_of : List ℕ → Result ℕ Why
-height_of word = and_then (number word) (λ n. if is_height n then Ok n else Err OutOfRange)
-
--- `height H`
-abbrev pub height_line : Settings → List (List ℕ) → Result Settings Why
-height_line settings words =
-    and_then (one_word words) (λ word.
-    and_then (height_of word) (λ n.
-    and_then (set_once settings.height n) (λ height.
-    Ok (record settings { height = height }))))
-
--- the first word of a line decides which setting it sets
-abbrev pub setting_of_kind : Settings → List ℕ → List (List ℕ) → Result Settings Why
-setting_of_kind settings kind words =
-    if same_word kind (codes "batch") then batch_line settings words
-    else if same_word kind (codes "window") then window_line settings words
-    else if same_word kind (codes "interval") then interval_line settings words
-    else if same_word kind (codes "seed") then seed_line settings words
-    else if same_word kind (codes "turns") then turns_line settings words
-    else if same_word kind (codes "height") then height_line settings words
-    else Err BadWord
 
 -- whether each setting is in its range
 abbrev pub are_settings : ℕ → ℕ → ℕ → ℕ → ℕ → ℕ → Bool

@@ -2,8 +2,9 @@
 //!
 //! A script is a text of lines, each a few words between spaces: `cluster 4`, `client 1`, `request 0 put KEY VALUE`, `seed 7`. [`read`]
 //! takes one apart. Each step has a module, and a file of `specs/` that says what it means: `words` (the words of a line), `fields`
-//! (numbers, keys, values), `settings` (numbers that a line may set, each once), `drafts` (what the lines so far declare), `lines` (each
-//! kind of line) and `scripts` with `reading` (a whole script).
+//! (numbers, keys, values), `settings` with `table` (numbers that a line may set, each once), `drafts` (what the lines so far declare),
+//! `lines` (each kind of line) and `scripts` with `reading` (a whole script). `twists` has the types that lines of later stages are read
+//! into, of replicas that fail, copies that are lost and timeouts: no line is read into one yet.
 //! Read the files of `specs/` in this order; a function of the reader answers the word of its own name there. `Checks` joins them: one
 //! check after another, of which the first that fails names its cause.
 //!
@@ -19,9 +20,12 @@ mod lines;
 mod reading;
 mod scripts;
 mod settings;
+mod table;
+mod twists;
 mod words;
 
 pub use faults::{BadScript, ScriptFault, Why};
 pub use reading::read;
 pub use scripts::{Script, Wish, Wishes};
 pub use settings::MOST_TURNS;
+pub use twists::{Fault, FaultLine, FaultLines, Loss, Losses, TimeoutLine, TimeoutLines};

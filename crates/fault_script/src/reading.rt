@@ -1,6 +1,7 @@
 //! The reader: the bytes of a script to what it declares, or to its first bad line and the first cause.
 ghost use Rattle.std.specs.Prelude.{◌≡◌, Ok, Err, true, IfOk, IfErr};
-ghost use Rattle.fault_script.specs.Scripts.{script_of, keeps_limits, IsBad};
+ghost use Rattle.fault_script.specs.Drafts.{empty_draft};
+ghost use Rattle.fault_script.specs.Scripts.{script_made, script_of, keeps_limits, IsBad};
 
 use crate::drafts::Draft;
 use crate::faults::{BadScript, LineFault, ScriptFault};
@@ -8,6 +9,15 @@ use crate::lines::line;
 use crate::scripts::Script;
 use crate::words::first_line;
 use std::alloc::Global;
+
+impl Script {
+    /// The script that declares nothing: each setting has its default. Takes no memory.
+    pub fn empty(alloc: Global) -> Script
+        ensures { result ≡ script_made empty_draft }
+    {
+        Draft::new(alloc).finish()
+    }
+}
 
 /// Reads a script. `Bad` comes exactly where a line is bad, and names the first such line and its first cause; memory is refused
 /// only where the script's own copies and lists can't grow.

@@ -1,12 +1,12 @@
 //! The settings of a script: numbers that a line may set, each once.
 ghost use Rattle.std.specs.Prelude.{◌≡◌, ◌≤◌, true, IfOk};
 ghost use Rattle.fault_script.specs.Words.{words_of};
-ghost use Rattle.fault_script.specs.Settings.{unset, set_once, set_within, default_settings, batch_line, least_window, window_line, interval_line, interval_of, seed_line, turns_line, is_height, height_of, height_line, setting_of_kind};
+ghost use Rattle.fault_script.specs.Settings.{unset, set_once, default_settings, is_allowed, setting_of, with_set, least_window, least_now, greatest_now, setting_line, interval_of, setting_of_kind};
 
 use crate::faults::Why;
-use crate::fields::{number, one_number};
-use crate::words::{Words, same_word};
-use fab_base::{MOST_REQUESTS, MOST_SLOTS};
+use crate::fields::one_number;
+use crate::table::Kind;
+use crate::words::Words;
 use std::marker::Model;
 
 /// The greatest budget of turns, the number of entries of all journals together at which a run ends.
@@ -22,11 +22,11 @@ pub(crate) struct Setting {
 
 impl Setting {
     /// The number until a line sets it.
-    fn unset(default: u64) -> Setting
-        ensures { result ≡ unset default }
+    fn unset(kind: Kind) -> Setting
+        ensures { result ≡ unset kind }
     {
         Setting {
-            value: default,
+            value: kind.row().default,
             given: false,
         }
     }
@@ -41,27 +41,6 @@ impl Setting {
         } else {
             Ok(Setting { value, given: true })
         }
-    }
-
-    /// The whole of a line that sets a number between two limits, which no line above set.
-    fn set_within(self, low: u64, high: u64, words: Words<'_>) -> Result<Setting, Why>
-        ensures is { result ≡ set_within low high self (words_of words.entry.rest.now) }
-        ensures within { IfOk result (λ setting. (low ≤ setting.value) × (setting.value ≤ high)) }
-    {
-        self.set_once(one_number(low, high, words)?)
-    }
-}
-
-/// A height: 5 or 10.
-fn height_of(word: &[u8]) -> Result<u64, Why>
-    ensures is { result ≡ height_of word.now }
-    ensures within { IfOk result (λ height. is_height height ≡ true) }
-{
-    let n = number(word)?;
-    if n == 5 || n == 10 {
-        Ok(n)
-    } else {
-        Err(Why::OutOfRange)
     }
 }
 
@@ -97,21 +76,44 @@ impl Settings {
         ensures { result ≡ default_settings }
     {
         Settings {
-            batch: Setting::unset(8),
-            window: Setting::unset(16),
-            interval: Setting::unset(8),
-            seed: Setting::unset(0),
-            turns: Setting::unset(100_000),
-            height: Setting::unset(10),
+            batch: Setting::unset(Kind::Batch),
+            window: Setting::unset(Kind::Window),
+            interval: Setting::unset(Kind::Interval),
+            seed: Setting::unset(Kind::Seed),
+            turns: Setting::unset(Kind::Turns),
+            height: Setting::unset(Kind::Height),
         }
     }
 
-    /// `batch B`
-    fn batch_line(mut self, words: Words<'_>) -> Result<Settings, Why>
-        ensures { result ≡ batch_line self (words_of words.entry.rest.now) }
+    /// What the lines so far set of this one.
+    fn setting_of(self, kind: Kind) -> Setting
+        ensures { result ≡ setting_of self kind }
     {
-        self.batch = self.batch.set_within(1, MOST_REQUESTS as u64, words)?;
-        Ok(self)
+        match kind {
+            Kind::Batch => self.batch,
+            Kind::Window => self.window,
+            Kind::Interval => self.interval,
+            Kind::Seed => self.seed,
+            Kind::Turns => self.turns,
+            Kind::Height => self.height,
+        }
+    }
+
+    /// The settings with this one set.
+    fn with_set(mut self, kind: Kind, setting: Setting) -> Settings
+        requires within { (least_now self kind ≤ setting.value) × (setting.value ≤ greatest_now self kind) }
+        requires allowed { is_allowed kind setting.value ≡ true }
+        ensures { result ≡ with_set self kind setting }
+    {
+        match kind {
+            Kind::Batch => self.batch = setting,
+            Kind::Window => self.window = setting,
+            Kind::Interval => self.interval = setting,
+            Kind::Seed => self.seed = setting,
+            Kind::Turns => self.turns = setting,
+            Kind::Height => self.height = setting,
+        }
+        self
     }
 
     /// The least window that a line may still set: an interval that a line above set is to fit into it.
@@ -121,25 +123,50 @@ impl Settings {
         if self.interval.given {
             self.interval.value
         } else {
-            1
+            Kind::Window.row().least
         }
     }
 
-    /// `window L`
-    fn window_line(mut self, words: Words<'_>) -> Result<Settings, Why>
-        ensures { result ≡ window_line self (words_of words.entry.rest.now) }
+    /// The least number that a line may set.
+    fn least_now(self, kind: Kind) -> u64
+        ensures { result ≡ least_now self kind }
     {
-        let least = self.least_window();
-        self.window = self.window.set_within(least, MOST_SLOTS as u64, words)?;
-        Ok(self)
+        match kind {
+            Kind::Window => self.least_window(),
+            _ => kind.row().least,
+        }
     }
 
-    /// `interval K`
-    fn interval_line(mut self, words: Words<'_>) -> Result<Settings, Why>
-        ensures { result ≡ interval_line self (words_of words.entry.rest.now) }
+    /// The greatest number that a line may set: an interval is no more than the window.
+    fn greatest_now(self, kind: Kind) -> u64
+        ensures { result ≡ greatest_now self kind }
     {
-        self.interval = self.interval.set_within(1, self.window.value, words)?;
-        Ok(self)
+        match kind {
+            Kind::Interval => self.window.value,
+            _ => kind.row().greatest,
+        }
+    }
+
+    /// The settings after the line of this one: just one word, which spells a number that may be set, and no line above set one.
+    fn setting_line(self, kind: Kind, words: Words<'_>) -> Result<Settings, Why>
+        ensures { result ≡ setting_line self kind (words_of words.entry.rest.now) }
+    {
+        let value = one_number(self.least_now(kind), self.greatest_now(kind), words)?;
+        if !kind.allows(value) {
+            return Err(Why::OutOfRange);
+        }
+        let setting = self.setting_of(kind).set_once(value)?;
+        Ok(self.with_set(kind, setting))
+    }
+
+    /// The settings after a line, by its first word.
+    pub(crate) fn setting_of_kind(self, kind: &[u8], words: Words<'_>) -> Result<Settings, Why>
+        ensures { result ≡ setting_of_kind self kind.now (words_of words.entry.rest.now) }
+    {
+        match Kind::of_word(kind) {
+            Some(kind) => self.setting_line(kind, words),
+            None => Err(Why::BadWord),
+        }
     }
 
     /// The interval in the end: what a line set, else the lesser of its default and the window.
@@ -151,52 +178,6 @@ impl Settings {
             self.interval.value
         } else {
             self.interval.value.min(self.window.value)
-        }
-    }
-
-    /// `seed S`
-    fn seed_line(mut self, words: Words<'_>) -> Result<Settings, Why>
-        ensures { result ≡ seed_line self (words_of words.entry.rest.now) }
-    {
-        self.seed = self.seed.set_within(0, u64::MAX, words)?;
-        Ok(self)
-    }
-
-    /// `turns T`
-    fn turns_line(mut self, words: Words<'_>) -> Result<Settings, Why>
-        ensures { result ≡ turns_line self (words_of words.entry.rest.now) }
-    {
-        self.turns = self.turns.set_within(1, MOST_TURNS as u64, words)?;
-        Ok(self)
-    }
-
-    /// `height H`
-    fn height_line(mut self, words: Words<'_>) -> Result<Settings, Why>
-        ensures { result ≡ height_line self (words_of words.entry.rest.now) }
-    {
-        let height = height_of(words.one()?)?;
-        self.height = self.height.set_once(height)?;
-        Ok(self)
-    }
-
-    /// The settings after a line, by its first word.
-    pub(crate) fn setting_of_kind(self, kind: &[u8], words: Words<'_>) -> Result<Settings, Why>
-        ensures { result ≡ setting_of_kind self kind.now (words_of words.entry.rest.now) }
-    {
-        if same_word(kind, b"batch") {
-            self.batch_line(words)
-        } else if same_word(kind, b"window") {
-            self.window_line(words)
-        } else if same_word(kind, b"interval") {
-            self.interval_line(words)
-        } else if same_word(kind, b"seed") {
-            self.seed_line(words)
-        } else if same_word(kind, b"turns") {
-            self.turns_line(words)
-        } else if same_word(kind, b"height") {
-            self.height_line(words)
-        } else {
-            Err(Why::BadWord)
         }
     }
 }

@@ -1,18 +1,16 @@
 -- A run has no more entries than its rules allow, so one that is cut off has just so many.
-use Rattle.std.proofs.Common.{◌≡◌, ℕ, zero, suc, ◌+◌, ◌<◌, ◌≤◌, Bool, true, false, cond, ◌||◌, nat_le, List, [], ◌∷◌, ◌++◌, map, length, Result, Ok, Err, refl, sym, ap, subst, ◌∙◌, arith, sum_by, length-append}
+use Rattle.std.proofs.Common.{◌≡◌, ℕ, zero, suc, ◌+◌, ◌<◌, ◌≤◌, Bool, true, false, cond, ◌||◌, nat_le, List, [], ◌∷◌, ◌++◌, length, Result, Ok, Err, refl, subst, arith, length-append}
 use Rattle.std.specs.Prelude.{slice_index_or, ◌%◌}
 use Rattle.std.proofs.lemmas.Bool.Decides.{nat_tests}
-use Rattle.std.proofs.lemmas.List.Sums.{sum_by-cons}
 use Rattle.fab_base.specs.declared.messages.Message.{Message}
 use Rattle.bft_verify.specs.declared.refusals.Refusal.{Refusal}
 use Rattle.run_words.specs.declared.movers.Mover.{Mover}
 use Rattle.run_words.specs.declared.logs.Entry.{Entry}
 use Rattle.run_words.specs.declared.logs.Pending.{Pending}
-use Rattle.run_words.specs.declared.logs.Trace.{Trace}
 use Rattle.run_words.specs.Journal.{Maker, moves, entry_of, reads}
 use Rattle.run_words.specs.Runs.{Rules, Run, Phase, Step, journal_in, with_entry, give, hear, hear_by, taken_out, pick_from, take_step, next_in, is_spent, after, steps, trace_in, transcript}
 use Rattle.run_words.specs.Lawful.{entries_of, Sane}
-use Rattle.run_words.proofs.Keeping.{after_well}
+use Rattle.run_words.proofs.Keeping.{after_well, sum_traces}
 
 -- ---- one step adds one entry at most
 
@@ -72,12 +70,8 @@ few r (suc n) = few_next r (after r n) (after r n).phase (few r n)
 
 -- ---- its transcript
 
-of_traces : (g : Trace → ℕ) (f : Maker → Trace) (makers : List Maker) → sum_by g (map f makers) ≡ sum_by (λ m. g (f m)) makers
-of_traces g f [] = refl
-of_traces g f (m ∷ rest) = sum_by-cons g (f m) (map f rest) ∙ (ap (λ k. g (f m) + k) (of_traces g f rest) ∙ sym (sum_by-cons (λ m. g (f m)) m rest))
-
 -- all journals together have no more entries than are allowed
 pub few_entries : (r : Rules) (n : ℕ) → Sane r → entries_of (transcript r (after r n)) ≤ r.turns
 few_entries r n sane =
     let run = after r n in
-    omega (arith, few r n, (after_well r n sane).fair.entries, of_traces (λ t. length t.journal) (trace_in run) r.makers)
+    omega (arith, few r n, (after_well r n sane).entries, sum_traces (λ t. length t.journal) (trace_in run) r.makers)

@@ -24,7 +24,7 @@ use Rattle.run_words.proofs.Counts.{IsIn, apart_from, one_by_id, one_copy, decli
 -- ---- the parcel of a number
 
 -- it stays when parcels are added
-at_append : (to : ReplicaId) (k : ℕ) (ps qs : List Parcel) (q : Parcel) → parcel_at to k ps ≡ Some q → parcel_at to k (ps ++ qs) ≡ Some q
+pub at_append : (to : ReplicaId) (k : ℕ) (ps qs : List Parcel) (q : Parcel) → parcel_at to k ps ≡ Some q → parcel_at to k (ps ++ qs) ≡ Some q
 at_append to k [] qs q h = absurd cc
 at_append to k (p ∷ ps) qs q h = go (λ n. at_append to n ps qs q) (is_same to p.to) k h
   where
@@ -39,7 +39,7 @@ abbrev one_if : Bool → ℕ
 one_if b = cond b 1 0
 
 -- the next parcel has the number of those before it
-at_count : (to : ReplicaId) (earlier rest : List Parcel) (p : Parcel) → is_same to p.to ≡ true → (n : ℕ)
+pub at_count : (to : ReplicaId) (earlier rest : List Parcel) (p : Parcel) → is_same to p.to ≡ true → (n : ℕ)
     → n ≡ count_by (λ q. is_same to q.to) earlier
     → parcel_at to n (earlier ++ p ∷ rest) ≡ Some p
 at_count to [] rest p s n e =
@@ -67,7 +67,7 @@ at_count to (x ∷ earlier) rest p s n e = go (λ k. at_count to earlier rest p 
         ∙ later n here
 
 -- each parcel that is put has its number
-put_named : (time : ℕ) (bytes : List ℕ) (earlier : List Parcel) (receivers : List ReplicaId) (q : Parcel)
+pub put_named : (time : ℕ) (bytes : List ℕ) (earlier : List Parcel) (receivers : List ReplicaId) (q : Parcel)
     → In q (put time bytes earlier receivers)
     → parcel_at q.to q.number (earlier ++ put time bytes earlier receivers) ≡ Some q
 put_named time bytes earlier [] q h = absurd h
@@ -81,7 +81,7 @@ put_named time bytes earlier (to ∷ rest) q (inr h) =
     subst (λ (l : List Parcel). parcel_at q.to q.number l ≡ Some q) (append_assoc earlier (p ∷ []) later)
     (put_named time bytes (earlier ++ p ∷ []) rest q h)
 
-added_named : (m : Maker) (w : Walk) (e : Entry) (q : Parcel) → In q (added m w e)
+pub added_named : (m : Maker) (w : Walk) (e : Entry) (q : Parcel) → In q (added m w e)
     → parcel_at q.to q.number (w.parcels ++ added m w e) ≡ Some q
 unfolding added
 added_named m w (Entry.Sent item) q h = put_named w.clock _ w.parcels item.to q h
@@ -94,13 +94,13 @@ added_named m w Entry.Marked q h = absurd h
 -- ---- copies
 
 -- the parcel that a copy is of
-record IsCopy (to from : ReplicaId) (ps : List Parcel) (c : Pending) : Type 0 where
-  parcel : Parcel
-  is_in : In parcel ps
-  receiver : is_same to parcel.to ≡ true
-  same : (copy_of from parcel).1 ≡ c
+pub record IsCopy (to from : ReplicaId) (ps : List Parcel) (c : Pending) : Type 0 where
+  pub parcel : Parcel
+  pub is_in : In parcel ps
+  pub receiver : is_same to parcel.to ≡ true
+  pub same : (copy_of from parcel).1 ≡ c
 
-copies_from : (to from : ReplicaId) (ps : List Parcel) (c : Pending) → In c (of to (map (copy_of from) ps)) → IsCopy to from ps c
+pub copies_from : (to from : ReplicaId) (ps : List Parcel) (c : Pending) → In c (of to (map (copy_of from) ps)) → IsCopy to from ps c
 copies_from to from [] c h = absurd h
 copies_from to from (q ∷ ps) c h = go (copies_from to from ps c) (is_same to q.to) refl h
   where

@@ -13,17 +13,7 @@ impl Transcript {
         ensures { result ≡ empty_transcript }
     {
         Transcript {
-            script: Script {
-                sizes: Rows::new(alloc),
-                homes: Rows::new(alloc),
-                requests: Rows::new(alloc),
-                batch: 8,
-                window: 16,
-                interval: 8,
-                seed: 0,
-                turns: 100_000,
-                height: 10,
-            },
+            script: Script::empty(alloc),
             traces: Rows::new(alloc),
             timeouts_left: 0,
         }
