@@ -1,15 +1,23 @@
 -- What a primary proposed, in order (ours).
-use Rattle.std.specs.Prelude.{◌≡◌, ℕ, ◌+◌, List, [], ◌∷◌, ◌++◌, length}
+use Rattle.std.specs.Prelude.{◌≡◌, ℕ, ◌+◌, ◌<◌, true, List, [], ◌∷◌, ◌++◌, length}
 use Rattle.std.specs.List.{flat_map}
 use Rattle.fab_base.specs.Limits.{Roster}
-use Rattle.fab_base.specs.Roster.{home_of}
+use Rattle.fab_base.specs.Roster.{home_of, size_of}
 use Rattle.fab_base.specs.declared.ids.ClientId.{ClientId}
 use Rattle.fab_base.specs.declared.messages.Message.{Message}
 use Rattle.fab_base.specs.declared.requests.Request.{Request}
 use Rattle.fab_rules.specs.Diary.{Entry, Heard, Said, Did}
 use Rattle.fab_machine.specs.State.{Local}
 use Rattle.fab_machine.specs.Proposing.{stamps_of, expected}
+use Rattle.fault_script.specs.declared.scripts.Script.{Script}
+use Rattle.fault_script.specs.Scripts.{keeps_limits}
+use Rattle.world_laws.specs.World.{NoClash}
 use Rattle.heed_laws.specs.Fronts.{GoOn}
+use Rattle.run_words.specs.Runs.{after, transcript}
+use Rattle.run_words.specs.declared.logs.Transcript.{Transcript}
+use Rattle.run_worlds.specs.Scripts.{roster_of, script_rules}
+use Rattle.run_worlds.specs.Worlds.{world_of}
+use Rattle.budget_laws.specs.Opened.{state_at, full_at}
 
 abbrev pub batch_in : Message → List (List Request)
 batch_in (Message.PrePrepare p) = p.batch ∷ []
@@ -36,3 +44,14 @@ pub record IsThrifty (r : Roster) (l : Local) (full : List Entry) : Type 0 where
   pub next_is : length (proposals_said full) + 1 ≡ l.next
   pub stamps : (client : ClientId) → home_of r client ≡ 1 → GoOn 1 (stamps_said client.number full)
   pub expected_is : (client : ClientId) → home_of r client ≡ 1 → expected l client.number ≡ length (stamps_said client.number full) + 1
+
+-- the one run of a script, after so many steps
+abbrev pub run_after : Script → ℕ → Transcript
+run_after script n = transcript (script_rules script) (after (script_rules script) n)
+
+-- so it is of the first member, which is the primary, after each number of steps of the one run of a script of one cluster, as long as no
+-- two batches share a digest
+abbrev pub ThriftyLaw : Type 0
+ThriftyLaw = (script : Script) (n : ℕ) → keeps_limits script ≡ true → length script.sizes ≡ 1 → 0 < size_of (roster_of script) 1
+    → NoClash (world_of (run_after script n))
+    → IsThrifty (roster_of script) (state_at (run_after script n) 0).local (full_at (run_after script n) 0)
