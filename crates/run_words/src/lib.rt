@@ -18,7 +18,6 @@
 #![tactic(auto)]
 
 mod ends;
-mod faults;
 mod laws;
 mod logs;
 mod making;
@@ -26,7 +25,7 @@ mod movers;
 mod party;
 
 pub use ends::{End, Evidence};
-pub use faults::Fault;
+pub use fault_script::Fault;
 pub use laws::{
     clock_law, honest_law, one_schedule_law, parcel_law, reading_law, run_example, run_law,
     signing_law, told_law,

@@ -1,8 +1,7 @@
 //! What a run leaves behind: journals, parcels, traces.
-use crate::faults::Fault;
 use bft_verify::Refusal;
 use fab_base::{Bytes, ClientId, Item, Message, ReplicaId, Rows};
-use fault_script::Script;
+use fault_script::{Fault, Script};
 
 /// Who a message is heard from. A time is the program's own bookkeeping (Lamport's clock, in the form that counts hops): no message,
 /// signature or digest has one.
