@@ -1,4 +1,3 @@
-pub mod ReadingFacts
 pub mod SeatFacts
 pub mod Picking
 pub mod Receiving

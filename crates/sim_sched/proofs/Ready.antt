@@ -8,7 +8,7 @@ use Rattle.bft_verify.specs.declared.refusals.Refusal.{Refusal}
 use Rattle.fab_base.specs.Limits.{Roster}
 use Rattle.bft_verify.specs.Ring.{Ring}
 use Rattle.run_words.specs.Journal.{Maker, moves, entry_of, reads}
-use Rattle.sim_sched.specs.Reading.{IsMadeWith}
+use Rattle.copy_reader.specs.Reading.{IsMadeWith}
 use Rattle.sim_sched.specs.declared.seats.Choice.{Choice}
 use Rattle.sim_sched.specs.Seats.{SeatView, AllOpen, IsPossible, receive, seat_given, seat_heard, heard_by, with_one}
 use Rattle.sim_sched.specs.Putting.{given_at}

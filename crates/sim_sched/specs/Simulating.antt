@@ -10,7 +10,7 @@ use Rattle.run_words.specs.declared.logs.Pending.{Pending}
 use Rattle.rand_chacha.specs.ChaCha.{ChaCha, word_at}
 use Rattle.sim_sched.specs.declared.seats.Choice.{Choice}
 use Rattle.sim_sched.specs.Seats.{SeatView, seat_in, is_read, AllOpen}
-use Rattle.sim_sched.specs.Reading.{IsMadeWith}
+use Rattle.copy_reader.specs.Reading.{IsMadeWith}
 use Rattle.sim_sched.specs.Putting.{heard_at, given_at, ids_of}
 
 -- what a step does at a place, and whether it made an entry

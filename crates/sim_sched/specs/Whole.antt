@@ -13,7 +13,7 @@ use Rattle.run_words.specs.declared.logs.Entry.{Entry}
 use Rattle.run_words.specs.declared.logs.Pending.{Pending}
 use Rattle.run_words.specs.declared.logs.Trace.{Trace}
 use Rattle.rand_chacha.specs.ChaCha.{key_of}
-use Rattle.sim_sched.specs.Reading.{IsMadeWith}
+use Rattle.copy_reader.specs.Reading.{IsMadeWith}
 use Rattle.sim_sched.specs.Seats.{SeatView}
 use Rattle.sim_sched.specs.Simulating.{word_of}
 

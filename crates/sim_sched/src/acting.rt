@@ -5,12 +5,12 @@ ghost use Rattle.run_words.specs.Journal as journals;
 ghost use Rattle.run_words.specs.Runs.{Step};
 ghost use Rattle.run_words.specs.declared.logs.Pending.{Pending};
 ghost use Rattle.fab_machine.specs.Step as machine;
-ghost use Rattle.sim_sched.specs.Reading.{IsMadeWith};
+ghost use Rattle.copy_reader.specs.Reading.{IsMadeWith};
 ghost use Rattle.sim_sched.specs.Seats.{seen, can, seat_steps, seat_given, parcels_given, seat_heard, is_read, with_turned};
 
-use crate::reading::Reader;
 use crate::seats::Seat;
 use bft_verify::Refusal;
+use copy_reader::Reader;
 use fab_base::{Answer, NoMemory, Rows};
 use run_words::{Act, Mover, Origin, Parcels, Party, Told, Turned};
 use std::alloc::Global;

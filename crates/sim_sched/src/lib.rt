@@ -9,8 +9,8 @@
 //! A parcel's bytes move from a party's answer to the copy on its way, and with it to the hearing; they are never copied. A copy that a
 //! replica refuses is noted by its number, and is let go.
 //!
-//! Modules: `seats` has a replica's place in a run, `reading` what a receiver makes of bytes, `acting` the events at one seat, `choosing`
-//! counts and finds steps, `putting` brings copies to their receivers, `stepping` makes one step, `playing` has the rules and quiet
+//! Modules: `seats` has a replica's place in a run, `acting` the events at one seat (what a receiver makes of bytes is `copy_reader`'s),
+//! `choosing` counts and finds steps, `putting` brings copies to their receivers, `stepping` makes one step, `playing` has the rules and quiet
 //! moments (`nudging` what came of one), `simulating` the call. What is said of seats is in `specs/`: a seat is seen as plain data
 //! (`Seats`), and the seats of a run are what the fold of `run_words` has at each replica.
 #![tactic(auto)]
@@ -20,7 +20,6 @@ mod choosing;
 mod nudging;
 mod playing;
 mod putting;
-mod reading;
 mod seats;
 mod simulating;
 mod stepping;

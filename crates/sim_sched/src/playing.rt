@@ -6,9 +6,9 @@ ghost use Rattle.sim_sched.specs.Simulating.{IsReady};
 ghost use Rattle.sim_sched.specs.Playing.{Entered, Nudged, Played};
 
 use crate::nudging::Nudges;
-use crate::reading::Reader;
 use crate::seats::Seat;
 use crate::stepping::{give_at, pick};
+use copy_reader::Reader;
 use fab_base::{NoMemory, ReplicaId};
 use rand_chacha::ChaCha8Rng;
 use run_words::{Mover, Party};

@@ -10,9 +10,9 @@ ghost use Rattle.sim_sched.specs.Whole.{IsLawfulRun, seed_bytes, rules_of, AreFr
 
 use crate::playing::play;
 use crate::putting::deliver_requests;
-use crate::reading::Reader;
 use crate::seats::Seat;
 use bft_verify::Keyring;
+use copy_reader::Reader;
 use fab_base::{Members, NoMemory, ReplicaId, Rows};
 use fault_script::Script;
 use rand_chacha::ChaCha8Rng;

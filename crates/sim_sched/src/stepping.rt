@@ -8,8 +8,8 @@ ghost use Rattle.sim_sched.specs.Simulating.{Acts, AllMadeWith, IsReady, Picked}
 
 use crate::choosing::{count_all, find};
 use crate::putting::deliver;
-use crate::reading::Reader;
 use crate::seats::{Choice, Seat};
+use copy_reader::Reader;
 use fab_base::{NoMemory, ReplicaId};
 use rand_chacha::ChaCha8Rng;
 use rand_core::utils::NextWord;

@@ -4,7 +4,7 @@ use Rattle.bft_verify.specs.declared.refusals.Refusal.{Refusal}
 use Rattle.run_words.specs.declared.logs.Pending.{Pending}
 use Rattle.run_words.specs.declared.party.Act.{Act}
 use Rattle.run_words.specs.Journal.{reads}
-use Rattle.sim_sched.specs.Reading.{IsRead}
+use Rattle.copy_reader.specs.Reading.{IsRead}
 use Rattle.sim_sched.specs.Seats.{seen, seat_heard, is_read}
 use Rattle.sim_sched.proofs.SeatFacts.{seat, same_copy, does_of, stays_open, heard, refused}
 use Rattle.sim_sched.proofs.seats.Seat.hear.Goals as goal

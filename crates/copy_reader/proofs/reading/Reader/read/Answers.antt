@@ -1,8 +1,8 @@
 use Rattle.std.proofs.Common.{◌≡◌, true, arith}
 use Rattle.fab_base.specs.Fields.{are_bytes}
 use Rattle.fab_base.proofs.Bytes.{are_bytes_of}
-use Rattle.sim_sched.proofs.ReadingFacts.{read_well, read_badly}
-use Rattle.sim_sched.proofs.reading.Reader.read.Goals as goal
+use Rattle.copy_reader.proofs.ReadingFacts.{read_well, read_badly}
+use Rattle.copy_reader.proofs.reading.Reader.read.Goals as goal
 
 pub returns-in-Ok : goal.returns-in-Ok
 returns-in-Ok c =

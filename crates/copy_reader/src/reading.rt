@@ -1,6 +1,6 @@
 //! What a receiver makes of bytes.
 ghost use Rattle.std.specs.Prelude.{◌≡◌, IfOk};
-ghost use Rattle.sim_sched.specs.Reading.{IsRead};
+ghost use Rattle.copy_reader.specs.Reading.{IsRead};
 
 use bft_verify::{Keyring, Refusal, Verified, verify};
 use fab_base::{Members, NoMemory};
@@ -10,16 +10,17 @@ use std::alloc::Global;
 #[derive(Clone, Copy, Drop)]
 pub struct Reader<'a> {
     /// Where memory comes from.
-    pub(crate) alloc: Global,
+    pub alloc: Global,
     /// The members of the fabric.
-    pub(crate) members: &'a Members,
+    pub members: &'a Members,
     /// The keys of replicas and clients.
-    pub(crate) ring: &'a Keyring,
+    pub ring: &'a Keyring,
 }
 
 impl Reader<'_> {
-    /// The message that bytes spell where it is sound, or else the first refusal. It fails only where memory is refused.
-    pub(crate) fn read(&self, load: &[u8]) -> Result<Result<Verified, Refusal>, NoMemory>
+    /// The message that bytes spell where it is sound, or else the first refusal: what each replica of these members and keys makes of
+    /// them. It fails only where memory is refused.
+    pub fn read(&self, load: &[u8]) -> Result<Result<Verified, Refusal>, NoMemory>
         ensures { IfOk result (λ read. IsRead self.now.members.now self.now.ring.now load.now read) }
     {
         match verify(self.alloc, self.members, self.ring, load) {

@@ -9,7 +9,7 @@ use Rattle.bft_verify.specs.Answers.{IsFree, judged_as_read}
 use Rattle.bft_verify.specs.Ring.{Ring}
 use Rattle.bft_verify.specs.declared.refusals.Refusal.{Refusal}
 use Rattle.run_words.specs.Journal.{Maker, reads}
-use Rattle.sim_sched.specs.Reading.{IsMadeWith, IsRead}
+use Rattle.copy_reader.specs.Reading.{IsMadeWith, IsRead}
 
 has_cause : (x : Refusal) (A : Type 0) → (x ≡ Refusal.NoMemory → ⊥) → IsFree x ⊎ A → A
 has_cause x A n (inr a) = a
