@@ -14,7 +14,7 @@ check() {
     if [ "$2" = yes ]; then passed=$((passed + 1)); echo "ok: $1"; else failed=$((failed + 1)); echo "FAILED: $1"; fi
 }
 # Built anew where it isn't there or is older than its sources.
-stale=$(find "$top"/crates/lmots_core/src "$top"/crates/lms_tree/src "$top"/crates/lms_bench/src -newer "$program" 2>/dev/null)
+stale=$(find "$top"/crates/sha_lanes/src "$top"/crates/lmots_core/src "$top"/crates/lms_tree/src "$top"/crates/lms_bench/src -newer "$program" 2>/dev/null)
 if [ ! -x "$program" ] || [ -n "$stale" ]; then
     (cd "$top/crates/lms_bench" && rt run -- 5 0 0 >/dev/null 2>&1 </dev/null)
 fi

@@ -1,5 +1,5 @@
 -- Chains of one leaf on their way, one step on.
-use Rattle.std.proofs.Common.{◌≡◌, ℕ, zero, suc, ◌+◌, ◌-◌, ◌<◌, ◌≤◌, List, [], length, slice_index, slice_set, refl, ap, sym, ◌∙◌, arith, inl, inr, add-zero, add-suc, subst}
+use Rattle.std.proofs.Common.{◌≡◌, ℕ, zero, suc, ◌+◌, ◌-◌, ◌<◌, ◌≤◌, List, [], length, slice_index, slice_set, refl, ap, sym, ◌∙◌, arith, inl, inr, add-zero, add-suc}
 use Rattle.std.proofs.lemmas.List.{get_or-set_same, get_or-set_other}
 use Rattle.std.proofs.lemmas.Bool.{cases_eq}
 use Rattle.lmots_core.specs.Chains.{chain, chain_step}

@@ -1,11 +1,8 @@
 -- Messages of 55 bytes, which are one block with their padding.
-use Rattle.std.proofs.Common.{◌≤◌, ◌≡◌, ℕ, zero, suc, ◌+◌, ◌*◌, ◌/◌, ◌<◌, List, [], ◌∷◌, ◌++◌, length, take, drop, refl, ap, sym, ◌∙◌, arith, length-append}
+use Rattle.std.proofs.Common.{◌≤◌, ◌≡◌, ℕ, ◌+◌, List, [], ◌∷◌, ◌++◌, length, take, refl, ap, sym, ◌∙◌, arith, length-append}
 use Rattle.std.specs.Int.{w16, w32, to_be_bytes}
 use Rattle.std.proofs.lemmas.List.{take_all}
-use Rattle.sha2.specs.Sha256.{compress, digest_bytes, hash_after, initial_hash_256, padded_message, padding, sha256}
-use Rattle.sha2.proofs.Absorbing256.{hash_after_next}
-use Rattle.lmots_core.specs.Chains.{chain_step}
-use Rattle.sha_lanes.specs.Lanes.{quad, lane}
+use Rattle.sha2.specs.Sha256.{padded_message, padding}
 
 abbrev pad : List ℕ
 pad = 0x80 ∷ 0 ∷ 0 ∷ 0 ∷ 0 ∷ 0 ∷ 0 ∷ 1 ∷ 0xb8 ∷ []

@@ -1,4 +1,4 @@
-use Rattle.std.proofs.Common.{◌≡◌, ◌<◌, ◌∙◌, arith}
+use Rattle.std.proofs.Common.{◌∙◌, arith}
 use Rattle.lmots_core.proofs.LeafLemmas.{all_same, count_le}
 use Rattle.lmots_core.proofs.candidates.candidate.Goals as goal
 

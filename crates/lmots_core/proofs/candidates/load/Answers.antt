@@ -1,4 +1,4 @@
-use Rattle.std.proofs.Common.{◌≡◌, ◌+◌, ◌-◌, ◌*◌, ◌∙◌, ap, ℕ, List, take, drop, length, arith}
+use Rattle.std.proofs.Common.{◌≡◌, ◌+◌, ◌-◌, ◌*◌, ◌∙◌, ap, ℕ, take, drop, arith}
 use Rattle.std.proofs.lemmas.List.{length-set}
 use Rattle.lmots_core.specs.Parameters.{width}
 use Rattle.lmots_core.specs.Digits.{coef}

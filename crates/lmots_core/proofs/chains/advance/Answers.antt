@@ -1,4 +1,4 @@
-use Rattle.std.proofs.Common.{◌≡◌, ◌∙◌, ℕ, List, slice_index, length, arith}
+use Rattle.std.proofs.Common.{◌∙◌, slice_index, arith}
 use Rattle.sha_lanes.specs.Lanes.{vector}
 use Rattle.lmots_core.proofs.RunningLemmas.{stepped, AreOn_long}
 use Rattle.lmots_core.proofs.chains.advance.Goals as goal

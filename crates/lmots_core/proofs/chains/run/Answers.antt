@@ -1,4 +1,4 @@
-use Rattle.std.proofs.Common.{◌≡◌, ◌∙◌, length, arith}
+use Rattle.std.proofs.Common.{◌∙◌, length, arith}
 use Rattle.std.proofs.lemmas.List.{length-set}
 use Rattle.lmots_core.proofs.RunningLemmas.{begun, set_there, set_on}
 use Rattle.lmots_core.proofs.chains.run.Goals as goal

@@ -1,4 +1,4 @@
-use Rattle.std.proofs.Common.{◌≡◌, ◌<◌, ◌≤◌, ℕ, List, length}
+use Rattle.std.proofs.Common.{◌≡◌, ◌<◌, ◌≤◌, ℕ, length}
 use Rattle.lmots_core.specs.Running.{IsOn, IsThere}
 use Rattle.lmots_core.proofs.chains.run.Given as goal
 

@@ -1,4 +1,4 @@
-use Rattle.std.proofs.Common.{◌≡◌, ◌<◌, ◌∙◌, sym, List, [], ◌∷◌, slice_index, length, arith}
+use Rattle.std.proofs.Common.{◌<◌, ◌∙◌, sym, [], ◌∷◌, slice_index, length, arith}
 use Rattle.sha_lanes.proofs.HashLemmas.{each4}
 use Rattle.lmots_core.proofs.RunningLemmas.{AreOn_long}
 use Rattle.lmots_core.proofs.chains.run_lanes.Goals as goal

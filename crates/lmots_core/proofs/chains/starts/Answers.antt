@@ -1,4 +1,4 @@
-use Rattle.std.proofs.Common.{◌≡◌, ◌+◌, ◌*◌, ℕ, List, slice_index, length, ◌∙◌, arith}
+use Rattle.std.proofs.Common.{◌+◌, ◌∙◌, arith}
 use Rattle.lmots_core.specs.Chains.{chain_start}
 use Rattle.sha_lanes.specs.Lanes.{vector}
 use Rattle.lmots_core.proofs.LeafLemmas.{fill4, length-four}

@@ -1,4 +1,4 @@
-use Rattle.std.proofs.Common.{◌≡◌, ◌∙◌, slice_index, length, arith}
+use Rattle.std.proofs.Common.{◌∙◌, slice_index, arith}
 use Rattle.sha_lanes.specs.Lanes.{vector}
 use Rattle.lmots_core.proofs.LeafLemmas.{shown}
 use Rattle.lmots_core.proofs.signatures.sign_values.Goals as goal

@@ -1,4 +1,4 @@
-use Rattle.std.proofs.Common.{◌≡◌, ◌++◌, ◌∙◌, ap, List, ℕ, length, arith}
+use Rattle.std.proofs.Common.{◌≡◌, ◌++◌, ◌∙◌, ap, List, ℕ, length}
 use Rattle.sha_lanes.specs.Lanes.{vector}
 use Rattle.lmots_core.specs.Parameters.{chain_count}
 use Rattle.lmots_core.specs.Chains.{joined}

@@ -1,4 +1,4 @@
-use Rattle.std.proofs.Common.{◌≡◌, ℕ, slice_index, arith}
+use Rattle.std.proofs.Common.{◌≡◌, slice_index, arith}
 use Rattle.lmots_core.specs.Chains.{chain_step}
 use Rattle.sha_lanes.specs.Lanes.{vector}
 use Rattle.sha_lanes.proofs.HashLemmas.{each4}

@@ -1,4 +1,4 @@
-use Rattle.std.proofs.Common.{◌≡◌, List, ℕ, refl, [], ◌∷◌, ◌++◌, ◌∙◌, ap, length}
+use Rattle.std.proofs.Common.{List, ℕ, refl, [], ◌∷◌, ◌++◌, ◌∙◌, ap, length}
 use Rattle.sha2.specs.Sha256.{padded_message}
 use Rattle.lmots_core.proofs.StepLemmas.{built}
 use Rattle.lmots_core.proofs.steps.step_block.Goals as goal
