@@ -1,9 +1,10 @@
 #!/bin/sh
 # Counts and times LMS with keys of kind W4.
 #
-# Counted with valgrind's callgrind, which is the same in each run, and asserted: the calls of SHA-256's
-# block function, which are to be exactly as many as RFC 8554's algorithms hash blocks, and the share of
-# all instructions that is inside it, at least 95 of 100. Also asserted: the memory that a key takes.
+# Counted with valgrind's callgrind, which is the same in each run, and asserted: the blocks that are hashed
+# alone, exactly as many as RFC 8554's algorithms hash besides those of chains; the steps of chains, four
+# at a time, of whose lanes no more than 8 in 100 may stand idle; and the share of all instructions that is
+# inside these two, at least 95 of 100. Also asserted: the memory that a key takes.
 # Timed in one run beside `openssl speed` and Bouncy Castle, and only reported.
 set -u
 top=$(cd "$(dirname "$0")/.." && pwd)
@@ -26,14 +27,17 @@ fi
 work=$(mktemp -d)
 trap 'rm -rf "$work"' EXIT
 
-# Prints the calls of the block function, its instructions, and all instructions.
+# Prints the calls of a function.
+calls() {
+    awk -v name="$1" '/^c?fn=/ { key = $1; sub(/^c?fn=/, "", key); if ($0 ~ name) keys[key] = 1; is = /^cfn=/ && (key in keys) }
+        /^calls=/ { if (is) { split($0, part, /[= ]/); sum += part[2] } is = 0 } END { print sum + 0 }' "$work/out"
+}
+# Prints the calls of the block function and of a step of four chains, the instructions inside both, and all instructions.
 count() {
     valgrind --tool=callgrind --callgrind-out-file="$work/out" "$program" "$@" >/dev/null 2>"$work/log" || return 1
-    calls=$(awk '/^cfn=.*/ { is = /compress/ || ($0 in names) } /^cfn=.*compress/ { split($0, part, " "); names[part[1]] = 1 }
-        /^calls=/ && is { split($0, part, /[= ]/); sum += part[2]; is = 0 } END { print sum + 0 }' "$work/out")
-    inside=$(callgrind_annotate "$work/out" | awk '/compress/ { gsub(",", "", $1); sum += $1 } END { print sum + 0 }')
+    inside=$(callgrind_annotate "$work/out" | awk '/block256::compress|steps::step4/ { gsub(",", "", $1); sum += $1 } END { print sum + 0 }')
     all=$(awk '/^(summary|totals):/ { print $2; exit }' "$work/out")
-    echo "$calls $inside $all"
+    echo "$(calls block256::compress) $(calls steps::step4) $inside $all"
 }
 
 if command -v valgrind >/dev/null 2>&1; then
@@ -43,19 +47,19 @@ if command -v valgrind >/dev/null 2>&1; then
     # the message 2 and 2, the starts 67, the steps 67 * 15, the public key 34, the leaf 1, the path 2h.
     # The digest of the signatures is the program's own: a signature of 2,348 bytes has 37 blocks and one
     # of 2,508 has 40, and no signature has 1.
-    while read -r words blocks name; do
+    while read -r words blocks steps name; do
         set -- $(echo "$words" | tr ',' ' ')
-        set -- $(count "$@") || set -- 0 0 1
-        share=$(awk "BEGIN { printf \"%.2f\", 100 * $2 / $3 }")
-        check "$name: $1 blocks of $blocks" "$([ "$1" -eq "$blocks" ] && echo yes)"
-        check "$name: $share of 100 instructions inside the block function, $3 in all" "$(awk "BEGIN { if ($share >= 95) print \"yes\" }")"
+        set -- $(count "$@") || set -- 0 0 0 1
+        share=$(awk "BEGIN { printf \"%.2f\", 100 * $3 / $4 }")
+        check "$name: $1 blocks of $blocks alone" "$([ "$1" -eq "$blocks" ] && echo yes)"
+        check "$name: $2 steps of four for the $steps of its chains" "$([ $((4 * $2)) -ge "$steps" ] && [ $((400 * $2)) -le $((108 * steps)) ] && echo yes)"
+        check "$name: $share of 100 instructions inside these, $4 in all" "$(awk "BEGIN { if ($share >= 95) print \"yes\" }")"
     done <<END
-5,0,0 $((35486 + 1)) a key of height 5, and one block of the program's
-10,0,0 $((1135614 + 1)) a key of height 10, and one block of the program's
-5,1,1 $((35486 + 1113 + 10 + 37)) a key of height 5, a signature and its verification
-10,1,1 $((1135614 + 1113 + 20 + 40)) a key of height 10, a signature and its verification
+5,0,0 $((35486 + 1 - 34304)) 34304 a key of height 5, and one block of the program's
+10,0,0 $((1135614 + 1 - 1097728)) 1097728 a key of height 10, and one block of the program's
+5,1,1 $((35486 + 1113 + 10 + 37 - 34304 - 1072)) $((34304 + 1072)) a key of height 5, a signature and its verification
+10,1,1 $((1135614 + 1113 + 20 + 40 - 1097728 - 1072)) $((1097728 + 1072)) a key of height 10, a signature and its verification
 END
-    # All that the program takes, with its words, its text and the key.
     for part in "5 8192" "10 131072"; do
         set -- $part
         taken=$(valgrind --tool=massif --massif-out-file="$work/massif" "$program" "$1" 0 0 >/dev/null 2>&1; awk -F= '/mem_heap_B/ { if ($2 > most) most = $2 } END { print most + 0 }' "$work/massif")
