@@ -1,8 +1,8 @@
 //! SHA-256 (FIPS 180-4) of four messages of one block each, side by side in the lanes of vectors.
 //!
 //! A vector of four words has one word of each message. All that a round does to a word is done to
-//! the four at once, so that four messages take about as long as two take one after another, on
-//! any processor.
+//! the four at once, so that four messages want about half the instructions that they want one after
+//! another.
 //!
 //! - [`hash4`] digests four blocks, each of which is a message with its padding: up to 55 bytes.
 //!
