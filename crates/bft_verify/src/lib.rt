@@ -15,8 +15,6 @@
 //! }
 //! ```
 //!
-//! Whoever gets a [`Verified`] from elsewhere asks [`Verified::is_for`] whether it was looked at for the own members and keys.
-//!
 //! What is sound, and what is refused in which order, stands in `specs/Sound`, the keys in `specs/Ring`, and what is answered to bytes
 //! in `specs/Answers`. [`sound_law`] says what soundness means: the message is shaped, and each part of it that somebody signs bears a
 //! valid signature of its own (RFC 8554) under its signer's key. No part is passed over because it stands inside another that was

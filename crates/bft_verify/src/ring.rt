@@ -1,5 +1,5 @@
 //! The public keys of all who sign.
-ghost use Rattle.std.specs.Prelude.{◌≡◌, ◌↔◌, IfOk, IsTrue};
+ghost use Rattle.std.specs.Prelude.{◌≡◌, IfOk, IsTrue};
 ghost use Rattle.std.specs.Option.{option_copied};
 
 use fab_base::{NoMemory, Rows, Who};
@@ -65,14 +65,6 @@ impl Keyring {
         Ok(Keyring {
             inner: Arc::try_clone(&self.inner)?,
         })
-    }
-
-    /// Whether both are handles to equal keys, by value. Takes no memory.
-    pub fn is_same(&self, other: &Keyring) -> bool
-        ensures { IsTrue result ↔ (self.now ≡ other.now) }
-    {
-        let (keys, others) = (&*self.inner, &*other.inner);
-        keys.replicas == others.replicas && keys.clients == others.clients
     }
 
     /// The key of a replica or a client. `None` comes exactly where the ring has none. Takes no memory.

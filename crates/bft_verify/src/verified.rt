@@ -1,5 +1,5 @@
 //! A message that is sound.
-ghost use Rattle.std.specs.Prelude.{◌≡◌, ◌↔◌, IsTrue};
+ghost use Rattle.std.specs.Prelude.{◌≡◌};
 ghost use Rattle.bft_verify.specs.Sound.{IsSound};
 
 use crate::ring::Keyring;
@@ -50,14 +50,6 @@ impl Verified {
         ensures sound { IsSound self.now.members self.now.ring self.now.message }
     {
         &self.ring
-    }
-
-    /// Whether the message was looked at for these members and these keys, by value. Takes no memory. Each handle is asked by its contents,
-    /// so a message that was looked at with other handles to the same members and keys is for these too.
-    pub fn is_for(&self, members: &Members, ring: &Keyring) -> bool
-        ensures { IsTrue result ↔ ((self.now.members ≡ members.now) × (self.now.ring ≡ ring.now)) }
-    {
-        self.members().is_same(members) && self.ring.is_same(ring)
     }
 
     /// The message.

@@ -2,10 +2,13 @@
 ghost use Rattle.std.specs.Prelude.{◌≡◌, IfOk, IsTrue};
 ghost use Rattle.fab_base.specs.declared.messages.Message.{Message};
 ghost use Rattle.fab_rules.specs.Format.{fits};
+ghost use Rattle.fab_rules.specs.Shape.{numbered};
 ghost use Rattle.fab_rules.specs.Spelling.{spelling_of};
+ghost use Rattle.fab_rules.specs.Statements.{parts_of};
+ghost use Rattle.bft_msg.specs.Passing.{Clears};
 ghost use Rattle.msg_read.specs.Reading.{reading_of};
-ghost use Rattle.bft_verify.specs.Answers.{Answers, judged_as_read};
-ghost use Rattle.bft_verify.specs.Sound.{IsSound, judged};
+ghost use Rattle.bft_verify.specs.Answers.{Answers, IsFree, judged_as_read};
+ghost use Rattle.bft_verify.specs.Sound.{IsSound, judged, signature_refusals};
 
 use crate::refusals::Refusal;
 use crate::ring::Keyring;
@@ -14,6 +17,14 @@ use crate::verified::Verified;
 use bft_msg::{decode, judge_parts, shape};
 use fab_base::{Members, Message};
 use std::alloc::Global;
+
+/// Looks at the signatures of a message that has a spelling.
+fn look(alloc: Global, ring: &Keyring, message: &Message) -> Result<(), Refusal>
+    requires { IsTrue (fits message.now) }
+    ensures { Clears IsFree (numbered (signature_refusals ring.now) 0 (parts_of message.now)) result }
+{
+    judge_parts(alloc, &Signatures { ring }, message)
+}
 
 /// Looks at a message that has a spelling: its shape, and then its signatures.
 fn admit(
@@ -31,7 +42,7 @@ fn admit(
         Ok(shaped) => shaped,
         Err((misfit, _message)) => return Err(Refusal::from(misfit)),
     };
-    judge_parts(alloc, &Signatures { ring }, shaped.message())?;
+    look(alloc, ring, shaped.message())?;
     Ok(Verified::new(shaped, ring.share()?))
 }
 
