@@ -16,12 +16,12 @@
 #              report the journals are replayed, once more that of the longest ledger: 3 n r + 3 (n + 1) r; the audit looks at each proposal
 #              heard, the report at each block: n r + r. In all r (10 n + 4)
 # What signatures need is counted in SHA-256's blocks, as bench/lms.sh counts them, for the mean sum of a signature's digits: of 67 digits
-# 499, with a spread of 39.
+# 499, with a spread of 39. Steps of chains are made four at a time, and each counts as four blocks, though a lane may stand idle.
 #
 # Counted with valgrind's callgrind, which is the same in each run. Times are processor time, the least of five runs, and are told, not asserted:
 # they differ from run to run by more than what is to be seen. Memory is the greatest resident size. Asserted:
-# 1. at least 90 of 100 instructions are inside SHA-256's block function;
-# 2. blocks are what signatures and the digests of batches need, within 3 of 100;
+# 1. at least 90 of 100 instructions are inside SHA-256's block function and the steps of four chains;
+# 2. blocks are no less than signatures and the digests of batches need by 3 of 100, and no more by 8;
 # 3. memory beyond that of the empty script is at most 6 times the bytes of the messages heard;
 # 4. for a byte heard, a run takes at most 1.05 times the instructions and 1.25 times the memory that the next smaller run takes, of fewer
 #    requests and of fewer replicas.
@@ -93,13 +93,14 @@ resident() { # resident SCRIPT greatest|least
   done | sort -n | if [ "$2" = least ]; then head -n 1; else tail -n 1; fi | awk '{ print 1024 * $1 }'
 }
 
-# Prints the calls of SHA-256's block function, the instructions inside it, and all instructions.
+# Prints the blocks that are hashed, the instructions inside the block function and the steps of four chains, and all instructions.
 count() { # count SCRIPT
   valgrind --tool=callgrind --compress-strings=no --compress-pos=no --callgrind-out-file="$work/out" \
     "$program" sim <"$1" >/dev/null 2>"$work/log" || { cat "$work/log" >&2; exit 1; }
   local calls inside all
-  calls=$(awk '/^cfn=/ { is = /compress/ } /^calls=/ && is { split($0, part, /[= ]/); sum += part[2] } END { print sum + 0 }' "$work/out")
-  inside=$(callgrind_annotate "$work/out" | awk '/compress/ { gsub(",", "", $1); sum += $1 } END { print sum + 0 }')
+  calls=$(awk '/^cfn=/ { blocks = /block256::compress/ ? 1 : /steps::step4/ ? 4 : 0 }
+    /^calls=/ && blocks { split($0, part, /[= ]/); sum += blocks * part[2] } END { print sum + 0 }' "$work/out")
+  inside=$(callgrind_annotate "$work/out" | awk '/block256::compress|steps::step4/ { gsub(",", "", $1); sum += $1 } END { print sum + 0 }')
   all=$(awk '/^(summary|totals):/ { print $2; exit }' "$work/out")
   echo "$calls $inside $all"
 }
@@ -155,15 +156,15 @@ measure() { # measure REPLICAS REQUESTS BATCH SMALLER..
     local with_keys inside all of_keys inside_keys all_keys needed
     read -r with_keys inside all < <(count "$work/script")
     read -r of_keys inside_keys all_keys < <(count "$work/keys")
-    check "$run: keys are $of_keys blocks of $keys, within 1 of 100" "$(holds "$of_keys >= 0.99 * $keys && $of_keys <= 1.01 * $keys")"
+    check "$run: keys are $of_keys blocks of $keys, within 2 of 100" "$(holds "$of_keys >= 0.99 * $keys && $of_keys <= 1.02 * $keys")"
     blocks=$((with_keys - of_keys))
     instructions[$run]=$((all - all_keys))
     share=$(number %.2f "100 * ($inside - $inside_keys) / ($all - $all_keys)")
-    check "$run: $share of 100 instructions inside the block function, of ${instructions[$run]}, at least 90" \
+    check "$run: $share of 100 instructions inside blocks and steps, of ${instructions[$run]}, at least 90" \
       "$([ "$share" != none ] && holds "$share >= 90" || echo 0)"
     needed=$((signatures + batches))
     check "$run: $blocks blocks of $signatures for signatures and $batches for batches, $(number %.3f "$blocks / $needed") times" \
-      "$(holds "$blocks >= 0.97 * $needed && $blocks <= 1.03 * $needed")"
+      "$(holds "$blocks >= 0.97 * $needed && $blocks <= 1.08 * $needed")"
     blocks=$(number %.1f "$blocks / $entries")
   fi
 

@@ -17,7 +17,7 @@ count_verify() { # count_verify LINE
     "$program" <"$work/asked" >"$work/answer" 2>"$work/log"
   grep -q '^Ok ' "$work/answer"
   local inside all
-  inside=$(callgrind_annotate "$work/out" | awk '/compress/ { gsub(",", "", $1); sum += $1 } END { print sum + 0 }')
+  inside=$(callgrind_annotate "$work/out" | awk '/block256::compress|steps::step4/ { gsub(",", "", $1); sum += $1 } END { print sum + 0 }')
   all=$(awk '/^(summary|totals):/ { print $2; exit }' "$work/out")
   echo "$inside $all"
 }
