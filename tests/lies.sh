@@ -42,20 +42,21 @@ is_current() { [ -f "${2%.edit}.record" ] && [ "$(record_of "$1" "$2")" = "$(cat
 
 is_ours() { grep -q "^$1:" "$top/crates.txt"; }
 
-# deps CRATE: the libraries of its line; below CRATE: ours among those that it stands on, each after those that it uses.
+# deps CRATE: the libraries of its line; below_once CRATE: ours among those that it stands on, each once and after those that it uses.
 deps() { sed -n "s/^$1://p" "$top/crates.txt"; }
 
-below() {
-  local name
-  for name in $(deps "$1"); do
-    if is_ours "$name"; then
-      below "$name"
-      echo "$name"
-    fi
-  done
+below_once() {
+  awk -F: -v start="$1" '
+    function visit(name,  i, count, names) {
+      if (name in seen) return
+      seen[name] = 1
+      count = split(below[name], names, " ")
+      for (i = 1; i <= count; i++) if (names[i] in below) visit(names[i])
+      if (name != start) print name
+    }
+    /^[a-z]/ { below[$1] = $2 }
+    END { visit(start) }' "$top/crates.txt"
 }
-
-below_once() { below "$1" | awk '!seen[$0]++'; }
 
 # words CRATE SOURCE: the words that every check and build of the crate has.
 words() {
