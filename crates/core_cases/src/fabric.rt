@@ -2,7 +2,8 @@
 use crate::node::{Node, Seat, Turn, letter, take};
 use crate::words::{Text, Unanswered, at, plain, small, smalls};
 use fab_base::{
-    Duplicate, Item, Members, Message, ReplicaId, Request, Who, is_within_limits, members,
+    Duplicate, Item, MOST_CLUSTERS, MOST_MEMBERS, Members, Message, ReplicaId, Request, Who,
+    is_within_limits, members,
 };
 use replica_core::Answer;
 use std::alloc::Global;
@@ -42,12 +43,14 @@ impl Fabric {
     /// The fabric of these members.
     fn of(alloc: Global, members: Members) -> Result<Fabric, Unanswered> {
         let mut nodes = Vec::new(alloc);
-        for cluster in 1..=members.clusters() {
-            for index in 0..members.size(cluster) {
+        for cluster in 1..=MOST_CLUSTERS {
+            for index in 0..MOST_MEMBERS {
                 let id = ReplicaId { cluster, index };
-                let seat = Seat::new(alloc, &members, id)?;
-                let mail = VecDeque::new(alloc);
-                nodes.push(Node { id, seat, mail })?;
+                if members.has(Who::Replica(id)) {
+                    let seat = Seat::new(alloc, &members, id)?;
+                    let mail = VecDeque::new(alloc);
+                    nodes.push(Node { id, seat, mail })?;
+                }
             }
         }
         Ok(Fabric {
