@@ -1,24 +1,23 @@
 //! The words that every crate of the fabric shares: who takes part, what is asked and answered, what replicas tell each other.
 //!
 //! Start with `Members` (the clusters, their sizes and the homes of the clients) and with `Message` (the twelve kinds of statement
-//! that replicas and clients send). `core_cases` makes a fabric of what a line names:
+//! that replicas and clients send). `core_cases` makes a fabric of what a line names, and gives a request to the replicas of its
+//! client's home:
 //!
 //! ```text
 //! if !is_within_limits(&sizes, &homes, window, interval, batch) {
 //!     return Err(Unanswered::Unreadable);
 //! }
 //! let members = members(alloc, &sizes, &homes, window, interval, batch)?;
-//! for cluster in 1..=members.clusters() {
-//!     for index in 0..members.size(cluster) {
-//!         let id = ReplicaId { cluster, index };
-//!         let seat = Seat::new(alloc, &members, id)?;
-//!         ..
-//!     }
+//! ..
+//! if !members.has(Who::Client(request.client)) {
+//!     return Err(Unanswered::Unreadable);
 //! }
+//! let home = members.home(request.client);
 //! ```
 //!
-//! A handle is shared by `members.share()?`, and `is_same` compares two by value. Every list in a message is a `Rows`, which a contract sees as a list, so that a whole message is
-//! plain data there and `≡` is equality of contents.
+//! A handle is shared by `members.share()?`, and `is_same` compares two by value. Every list in a message is a `Rows`, which a
+//! contract sees as a list, so that a whole message is plain data there and `≡` is equality of contents.
 //!
 //! Definitions stand in `specs/` for all crates above, and nowhere else: `Limits` (the members of a fabric within its limits, which
 //! `limits.rt` names), `Fields` (what fits a field), `Quorums` (how many members may be faulty, how many make a quorum, and what a
