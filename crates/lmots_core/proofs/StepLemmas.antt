@@ -1,5 +1,5 @@
 -- The words of the blocks that steps hash.
-use Rattle.std.proofs.Common.{◌≡◌, ℕ, zero, suc, ◌+◌, ◌*◌, ◌/◌, ◌%◌, ◌^◌, ◌<◌, ◌≤◌, List, [], ◌∷◌, ◌++◌, length, slice_index, refl, sym, ◌∙◌, arith, length-append, w32, Fits}
+use Rattle.std.proofs.Common.{◌≡◌, ℕ, zero, suc, ◌+◌, ◌*◌, ◌/◌, ◌%◌, ◌^◌, ◌<◌, ◌≤◌, List, [], ◌∷◌, ◌++◌, length, slice_index, refl, ap, sym, ◌∙◌, arith, length-append, w32, Fits}
 use Rattle.std.specs.Int.{w16, to_be_bytes}
 use Rattle.std.proofs.lemmas.Nat.{from_be_bytes-to_be_bytes_4}
 use Rattle.sha2.specs.Sha256.{word_at, digest_bytes, padded_message}
@@ -82,6 +82,10 @@ pub straddled_quad : (x y : List ℕ) → Each1 (Fits w32) x → Each1 (Fits w32
     → quad (λ k. (slice_index x k * 2 ^ 8 % 2 ^ 32 + slice_index y k / 2 ^ 24) % 2 ^ 32) ≡ quad (λ k. three_and_one (slice_index x k) (slice_index y k))
 straddled_quad x y fx fy = quad_eq _ _ (λ k. shifted (slice_index x k) (slice_index y k) (lane_below x fx k) (lane_below y fy k))
 
+-- the number of a chain and a place, and a byte
+pub headed : (i j x : ℕ) → i < 2 ^ 16 → j < 256 → x < 2 ^ 32 → (i * 2 ^ 16 + j * 2 ^ 8 + x / 2 ^ 24) % 2 ^ 32 ≡ head_word i j x
+headed i j x hi hj hx = omega arith
+
 -- what a step hashes is short enough for one block
 pub length-step : (id : List ℕ) (q i j : ℕ) (words : List ℕ) → length id ≡ 16 → length (step_message id q i j (digest_bytes words 8)) ≤ 55
 unfolding digest_bytes
@@ -98,3 +102,11 @@ length-step id q i j words long =
 pub straddled_lane : (s x y : List ℕ) (f g : ℕ → ℕ) (i : ℕ) → i < 4 → s ≡ quad (λ k. three_and_one (slice_index x k) (slice_index y k)) → x ≡ quad f → y ≡ quad g
     → slice_index s i ≡ three_and_one (f i) (g i)
 straddled_lane s x y f g i lt e ex ey = at_lane s (λ k. three_and_one (slice_index x k) (slice_index y k)) i lt e ∙ rw (at_lane x f i lt ex, at_lane y g i lt ey) refl
+
+-- lane i of words that begin with chains and places
+pub heads_lane : (s x chains places : List ℕ) (f : ℕ → ℕ) (i : ℕ) → i < 4
+    → s ≡ quad (λ k. head_word (slice_index chains k) (slice_index places k) (slice_index x k)) → x ≡ quad f
+    → slice_index s i ≡ head_word (slice_index chains i) (slice_index places i) (f i)
+heads_lane s x chains places f i lt e ex =
+    at_lane s (λ k. head_word (slice_index chains k) (slice_index places k) (slice_index x k)) i lt e
+    ∙ ap (λ (n : ℕ). head_word (slice_index chains i) (slice_index places i) n) (at_lane x f i lt ex)

@@ -12,8 +12,8 @@ use crate::digits::{coef, with_checksum};
 use crate::kind::OtsKind;
 use crate::public_keys::{feed_values, key_hasher};
 use crate::signatures::message_digest;
-use sha2::Digest;
 use sha_lanes::words_of;
+use sha2::Digest;
 
 // The values of a signature and the places where they stand.
 fn load(

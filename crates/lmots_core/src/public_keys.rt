@@ -10,8 +10,8 @@ ghost use Rattle.lmots_core.specs.OneTime.{public_key};
 use crate::chains::{run, starts};
 use crate::kind::OtsKind;
 use crate::seed::OtsSeed;
-use sha2::{Digest, Sha256};
 use sha_lanes::digest_of;
+use sha2::{Digest, Sha256};
 
 // D_PBLC, which marks the hash of a public key.
 const D_PBLC: [u8; 2] = [0x80, 0x80];

@@ -10,8 +10,8 @@ use crate::chains::{run, starts};
 use crate::digits::{coef, with_checksum};
 use crate::kind::OtsKind;
 use crate::seed::OtsSeed;
-use sha2::{Digest, Sha256};
 use sha_lanes::digest_of;
+use sha2::{Digest, Sha256};
 use std::alloc::AllocError;
 
 // D_MESG, which marks the hash of a message.

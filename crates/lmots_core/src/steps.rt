@@ -3,9 +3,9 @@
 //! A value of a chain is eight words, whose bytes are the 32 that the standard hashes. They stand behind
 //! 23 bytes in the block of a step, so that a word of the block has three bytes of one word of the value
 //! and one of the next.
-ghost use Rattle.std.specs.Prelude.{◌≡◌, ℕ, ◌+◌, ◌<◌, ◌≤◌, ◌++◌, [], ◌∷◌, slice_index};
+ghost use Rattle.std.specs.Prelude.{◌≡◌, ℕ, ◌+◌, ◌/◌, ◌^◌, ◌<◌, ◌≤◌, slice_index};
 ghost use Rattle.std.specs.Int.{w16, w32, to_be_bytes};
-ghost use Rattle.sha2.specs.Sha256.{word_at, digest_bytes, padded_message};
+ghost use Rattle.sha2.specs.Sha256.{add32, word_at, digest_bytes, padded_message};
 ghost use Rattle.sha_lanes.specs.Lanes.{quad, vector, HaveBlocks};
 ghost use Rattle.lmots_core.specs.Chains.{chain_step};
 ghost use Rattle.lmots_core.specs.Running.{three_and_one, head_word, step_message};
@@ -15,6 +15,7 @@ use std::simd::prelude::*;
 
 // What pads the 55 bytes of a step to a block: a bit 1, zeros, and their length in bits.
 const END_MARK: u32 = 0x8000_0000;
+
 const STEP_BITS: u32 = 440;
 
 // Word `at` of four values.
@@ -34,27 +35,27 @@ fn straddled(x: u32x4, y: u32x4) -> u32x4
     (x << u32x4::splat(8)) + (y >> u32x4::splat(24))
 }
 
-// The word that begins with the number of the chain and the place, in front of a value's first byte.
+// The word that begins with the number of a chain and a place, before the first byte of a word `x` is
+// added to it.
 #[inline(always)]
-fn head(i: u16, j: u8, first: u32) -> u32
-    ensures { result ≡ head_word i j first }
+fn number(i: u16, j: u8) -> u32
+    ensures { (x : ℕ) → x < 2 ^ 32 → add32 result (x / 2 ^ 24) ≡ head_word i j x }
 {
-    let [high, low] = i.to_be_bytes();
-    let [value, _, _, _] = first.to_be_bytes();
-    u32::from_be_bytes([high, low, j, value])
+    u32::from(i) * 0x1_0000 + u32::from(j) * 0x100
 }
 
-// The words that begin with the numbers of four chains and their places.
+// The words that begin with the numbers of four chains and their places, in front of the first bytes of
+// the words `first`.
 #[inline(always)]
-fn heads(chains: [u16; 4], places: [u8; 4], values: &[[u32; 8]; 4]) -> u32x4
-    ensures { result ≡ quad (λ k. head_word (slice_index chains k) (slice_index places k) (slice_index (vector values.now k) 0)) }
+fn heads(chains: [u16; 4], places: [u8; 4], first: u32x4) -> u32x4
+    ensures { result ≡ quad (λ k. head_word (slice_index chains k) (slice_index places k) (slice_index first k)) }
 {
     u32x4::from_array([
-        head(chains[0], places[0], values[0][0]),
-        head(chains[1], places[1], values[1][0]),
-        head(chains[2], places[2], values[2][0]),
-        head(chains[3], places[3], values[3][0]),
-    ])
+        number(chains[0], places[0]),
+        number(chains[1], places[1]),
+        number(chains[2], places[2]),
+        number(chains[3], places[3]),
+    ]) + (first >> u32x4::splat(24))
 }
 
 // The word at byte `at` of the identifier, in each lane.
@@ -63,12 +64,7 @@ fn id_words(id: &[u8; 16], at: usize) -> u32x4
     requires { at + 4 ≤ 16 }
     ensures { result ≡ quad (λ _. word_at id.now at) }
 {
-    u32x4::splat(u32::from_be_bytes([
-        id[at],
-        id[at + 1],
-        id[at + 2],
-        id[at + 3],
-    ]))
+    u32x4::splat(u32::from_be_bytes([id[at], id[at + 1], id[at + 2], id[at + 3]]))
 }
 
 // The blocks of one step of four chains, word by word: 55 bytes each, with their padding.
@@ -96,7 +92,7 @@ fn step_words(
         id_words(id, 8),
         id_words(id, 12),
         u32x4::splat(q),
-        heads(chains, places, values),
+        heads(chains, places, a),
         straddled(a, b),
         straddled(b, c),
         straddled(c, d),

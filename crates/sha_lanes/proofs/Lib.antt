@@ -3,3 +3,4 @@ pub mod RoundLemmas
 pub mod HashLemmas
 pub mod DigestLemmas
 mod ChMaj
+mod Rotations

@@ -2,8 +2,8 @@ use Rattle.std.proofs.Common.{◌≡◌, ℕ, ◌*◌, ◌<◌, List, [], ◌∷
 use Rattle.sha2.specs.Sha256.{word_at, digest_bytes, padded_message}
 use Rattle.sha_lanes.specs.Lanes.{quad, vector}
 use Rattle.sha_lanes.proofs.RoundLemmas.{at_lane}
-use Rattle.lmots_core.specs.Running.{head_word, step_message}
-use Rattle.lmots_core.proofs.StepLemmas.{each16, block_list, block_words, straddled_lane}
+use Rattle.lmots_core.specs.Running.{step_message}
+use Rattle.lmots_core.proofs.StepLemmas.{each16, block_list, block_words, straddled_lane, heads_lane}
 use Rattle.lmots_core.proofs.steps.step_words.Goals as goal
 
 pub returns : goal.returns
@@ -27,7 +27,7 @@ returns c = λ i lt.
     (at_lane c.id_words-3.result (λ _. word_at id 8) i lt c.id_words-3.ensures ∙ word 2 (omega arith))
     (at_lane c.id_words-4.result (λ _. word_at id 12) i lt c.id_words-4.ensures ∙ word 3 (omega arith))
     (at_lane (quad (λ _. q)) (λ _. q) i lt refl ∙ word 4 (omega arith))
-    (at_lane c.heads.result (λ k. head_word (slice_index chains k) (slice_index places k) (slice_index (vector values k) 0)) i lt c.heads.ensures ∙ word 5 (omega arith))
+    (heads_lane c.heads.result c.column-a.result chains places (at 0) i lt c.heads.ensures c.column-a.ensures ∙ word 5 (omega arith))
     (straddled_lane c.straddled.result c.column-a.result c.column-b.result (at 0) (at 1) i lt c.straddled.ensures c.column-a.ensures c.column-b.ensures ∙ word 6 (omega arith))
     (straddled_lane c.straddled-2.result c.column-b.result c.column-c.result (at 1) (at 2) i lt c.straddled-2.ensures c.column-b.ensures c.column-c.ensures ∙ word 7 (omega arith))
     (straddled_lane c.straddled-3.result c.column-c.result c.column-d.result (at 2) (at 3) i lt c.straddled-3.ensures c.column-c.ensures c.column-d.ensures ∙ word 8 (omega arith))

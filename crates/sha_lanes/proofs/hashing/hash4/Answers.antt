@@ -1,6 +1,6 @@
-use Rattle.std.proofs.Common.{◌≡◌, ◌<◌, ◌*◌, ℕ, List, [], ◌∷◌, ap, ◌∙◌, refl, arith}
+use Rattle.std.proofs.Common.{◌≡◌, ◌<◌, ℕ, List, [], ◌∷◌, ap, ◌∙◌}
 use Rattle.sha2.specs.Sha256.{compress, digest_bytes, initial_hash_256}
-use Rattle.sha_lanes.specs.Lanes.{vector, lane, HaveBlocks, AreWindows}
+use Rattle.sha_lanes.specs.Lanes.{vector, lane, HaveBlocks}
 use Rattle.sha_lanes.proofs.HashLemmas.{each4, one_block, windows}
 use Rattle.sha_lanes.proofs.hashing.hash4.Goals as goal
 
