@@ -1,9 +1,9 @@
 //! The chains of one leaf, started and run four at a time (RFC 8554, sections 4.3, 4.5 and 4.6, and
 //! appendix A).
 //!
-//! The values of the chains stand in a table, as words, with the place and the goal of each. A step is computed
-//! for four chains, and is written where it takes a chain on towards its goal. What the table says holds
-//! whichever chains are stepped; so what is left to choose is that no lane stands idle.
+//! The values of the chains stand in a table, as words, with the place and the goal of each. A step is
+//! computed for four chains, and is written where it takes a chain on towards its goal. What the table
+//! says holds whichever chains are stepped; so what is left to choose is that no lane stands idle.
 ghost use Rattle.std.specs.Prelude.{◌≡◌, ℕ, List, ◌+◌, ◌-◌, ◌*◌, ◌<◌, ◌≤◌, length, slice_index};
 ghost use Rattle.lmots_core.specs.Chains.{chain_start, chain};
 ghost use Rattle.sha2.specs.Sha256.{digest_bytes};

@@ -4,7 +4,6 @@
 //! 23 bytes in the block of a step, so that a word of the block has three bytes of one word of the value
 //! and one of the next.
 ghost use Rattle.std.specs.Prelude.{◌≡◌, ℕ, ◌+◌, ◌/◌, ◌^◌, ◌<◌, ◌≤◌, slice_index};
-ghost use Rattle.std.specs.Int.{w16, w32, to_be_bytes};
 ghost use Rattle.sha2.specs.Sha256.{add32, word_at, digest_bytes, padded_message};
 ghost use Rattle.sha_lanes.specs.Lanes.{quad, vector, HaveBlocks};
 ghost use Rattle.lmots_core.specs.Chains.{chain_step};
@@ -13,7 +12,7 @@ ghost use Rattle.lmots_core.specs.Running.{three_and_one, head_word, step_messag
 use sha_lanes::hash4;
 use std::simd::prelude::*;
 
-// What pads the 55 bytes of a step to a block: a bit 1, zeros, and their length in bits.
+// A bit 1, which ends the 55 bytes of a step, and their length in bits; between the two stand zeros.
 const END_MARK: u32 = 0x8000_0000;
 
 const STEP_BITS: u32 = 440;
