@@ -3,8 +3,9 @@
 #
 # Counted with valgrind's callgrind, which is the same in each run, and asserted: the blocks that are hashed
 # alone, exactly as many as RFC 8554's algorithms hash besides those of chains; the steps of chains, four
-# at a time, of whose lanes no more than 8 in 100 may stand idle; and the share of all instructions that is
-# inside these two, at least 95 of 100. Also asserted: the memory that a key takes.
+# at a time, of whose lanes no more than 8 in 100 may stand idle; the share of all instructions that is
+# inside these two, at least 95 of 100; and the instructions of a key, a signature and a verification, at most 52 of
+# 100 of what they take with one chain after another. Also asserted: the memory that a key takes.
 # Timed in one run beside `openssl speed` and Bouncy Castle, and only reported.
 set -u
 top=$(cd "$(dirname "$0")/.." && pwd)
@@ -54,11 +55,27 @@ if command -v valgrind >/dev/null 2>&1; then
         check "$name: $1 blocks of $blocks alone" "$([ "$1" -eq "$blocks" ] && echo yes)"
         check "$name: $2 steps of four for the $steps of its chains" "$([ $((4 * $2)) -ge "$steps" ] && [ $((400 * $2)) -le $((108 * steps)) ] && echo yes)"
         check "$name: $share of 100 instructions inside these, $4 in all" "$(awk "BEGIN { if ($share >= 95) print \"yes\" }")"
+        case $words in
+            5,0,0) small=$4 ;;
+            5,1,1) both=$4 ;;
+            10,0,0) large=$4 ;;
+        esac
     done <<END
 5,0,0 $((35486 + 1 - 34304)) 34304 a key of height 5, and one block of the program's
 10,0,0 $((1135614 + 1 - 1097728)) 1097728 a key of height 10, and one block of the program's
 5,1,1 $((35486 + 1113 + 10 + 37 - 34304 - 1072)) $((34304 + 1072)) a key of height 5, a signature and its verification
 10,1,1 $((1135614 + 1113 + 20 + 40 - 1097728 - 1072)) $((1097728 + 1072)) a key of height 10, a signature and its verification
+END
+    # Beside what the same program takes where chains are run one after another (kind W4, rt's default processor). The signature
+    # has the program's digest of it in both.
+    set -- $(count 5 1 0) || set -- 0 0 0 1
+    while read -r now alone name; do
+        share=$(awk "BEGIN { printf \"%.1f\", 100 * $now / $alone }")
+        check "$name: $now instructions, $share of 100 of $alone" "$(awk "BEGIN { if ($now > 0 && $share <= 52) print \"yes\" }")"
+    done <<END
+$large 3532229859 a key of height 10
+$(($4 - small)) 1877239 a signature
+$((both - $4)) 1738053 its verification
 END
     for part in "5 8192" "10 131072"; do
         set -- $part

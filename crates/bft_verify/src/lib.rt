@@ -32,6 +32,7 @@ mod laws;
 mod making;
 mod refusals;
 mod ring;
+mod same_keys;
 mod signatures;
 mod verified;
 mod verifying;

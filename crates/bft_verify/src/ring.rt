@@ -1,7 +1,8 @@
 //! The public keys of all who sign.
-ghost use Rattle.std.specs.Prelude.{◌≡◌, IfOk, IsTrue};
+ghost use Rattle.std.specs.Prelude.{◌≡◌, ◌↔◌, IfOk, IsTrue};
 ghost use Rattle.std.specs.Option.{option_copied};
 
+use crate::same_keys::{are_same_clusters, are_same_keys};
 use fab_base::{NoMemory, Rows, Who};
 use lms_tree::Public;
 use std::alloc::Global;
@@ -65,6 +66,16 @@ impl Keyring {
         Ok(Keyring {
             inner: Arc::try_clone(&self.inner)?,
         })
+    }
+
+    /// Whether both are handles to equal keys, by value: of the same members of the same clusters, and of the same clients. Takes no
+    /// memory.
+    pub fn is_same(&self, other: &Keyring) -> bool
+        ensures { IsTrue result ↔ (self.now ≡ other.now) }
+    {
+        let (keys, others) = (&*self.inner, &*other.inner);
+        are_same_clusters(keys.replicas.as_slice(), others.replicas.as_slice())
+            && are_same_keys(keys.clients.as_slice(), others.clients.as_slice())
     }
 
     /// The key of a replica or a client. `None` comes exactly where the ring has none. Takes no memory.

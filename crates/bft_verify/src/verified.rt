@@ -1,5 +1,5 @@
 //! A message that is sound.
-ghost use Rattle.std.specs.Prelude.{◌≡◌};
+ghost use Rattle.std.specs.Prelude.{◌≡◌, ◌↔◌, IsTrue};
 ghost use Rattle.bft_verify.specs.Sound.{IsSound};
 
 use crate::ring::Keyring;
@@ -58,6 +58,15 @@ impl Verified {
         ensures sound { IsSound self.now.members self.now.ring self.now.message }
     {
         self.shaped.message()
+    }
+
+    /// Whether it is sound for these members under these keys, by value: whoever was handed it by others asks so before it is heard.
+    /// Takes no memory, and looks at no signature again.
+    pub fn is_for(&self, members: &Members, ring: &Keyring) -> bool
+        ensures is { IsTrue result ↔ ((self.now.members ≡ members.now) × (self.now.ring ≡ ring.now)) }
+        ensures sound { IsTrue result → IsSound members.now ring.now self.now.message }
+    {
+        self.shaped.members().is_same(members) && self.ring.is_same(ring)
     }
 
     /// The message as one that is shaped for the same members. The handle to the keyring is dropped. Takes no memory.

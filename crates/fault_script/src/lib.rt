@@ -1,7 +1,17 @@
 //! The reader of scripts: from bytes to what they declare, or to the first bad line and its first cause.
 //!
 //! A script is a text of lines, each a few words between spaces: `cluster 4`, `client 1`, `request 0 put KEY VALUE`, `seed 7`. [`read`]
-//! takes one apart. Each step has a module, and a file of `specs/` that says what it means: `words` (the words of a line), `fields`
+//! takes one apart. `fabric_run` has the script of a run from it, and tells a bad line by the program's exit:
+//!
+//! ```text
+//! match read(alloc, bytes.as_slice()) {
+//!     Ok(script) => Ok(script),
+//!     Err(ScriptFault::Bad(bad)) => Err(Exit::BadScript(bad)),
+//!     Err(ScriptFault::NoMemory) => Err(Exit::NoMemory),
+//! }
+//! ```
+//!
+//! Each step has a module, and a file of `specs/` that says what it means: `words` (the words of a line), `fields`
 //! (numbers, keys, values), `settings` with `table` (numbers that a line may set, each once), `drafts` (what the lines so far declare),
 //! `lines` (each kind of line) and `scripts` with `reading` (a whole script). `twists` has the types that lines of later stages are read
 //! into, of replicas that fail, copies that are lost and timeouts: no line is read into one yet.

@@ -5,7 +5,8 @@ use Rattle.std.proofs.lemmas.Bool.{cases_eq}
 use Rattle.lmots_core.specs.Chains.{chain, chain_step}
 use Rattle.lmots_core.proofs.ChainLemmas.{chain_to_more, chain_start_none}
 use Rattle.sha_lanes.specs.Lanes.{vector}
-use Rattle.lmots_core.specs.Running.{IsOn, AreOn, IsThere, IsNext}
+use Rattle.sha2.specs.Sha256.{digest_bytes}
+use Rattle.lmots_core.specs.Running.{value_in, IsOn, AreOn, IsThere, IsNext}
 
 -- a chain in two parts
 pub chain_on : (id : List ℕ) (q i from m n : ℕ) (value : List ℕ)
@@ -27,11 +28,11 @@ chain_there id q i from p to value a b =
 -- what a step gives a chain that is on its way
 pub stepped : (id : List ℕ) (q : ℕ) (from : List ℕ) (start : List (List ℕ)) (goals places : List ℕ) (values : List (List ℕ)) (i : ℕ) (value : List ℕ)
     → IsOn id q from start goals places values i
-    → value ≡ chain_step id q i (slice_index places i) (vector values i)
+    → digest_bytes value 8 ≡ chain_step id q i (slice_index places i) (value_in values i)
     → IsNext id q from start i (slice_index places i) value
 stepped id q from start goals places values i value on e = (
   on.0,
-  e ∙ ap (chain_step id q i (slice_index places i)) on.2 ∙ sym (chain_to_more id q i (slice_index from i) (slice_index places i) (vector start i) on.0),
+  e ∙ ap (chain_step id q i (slice_index places i)) on.2 ∙ sym (chain_to_more id q i (slice_index from i) (slice_index places i) (value_in start i) on.0),
 )
 
 pub committed : (id : List ℕ) (q : ℕ) (from : List ℕ) (start : List (List ℕ)) (goals places : List ℕ) (values : List (List ℕ)) (n at j : ℕ) (value : List ℕ)
@@ -58,17 +59,17 @@ AreOn_long id q from start goals places values m n e on = λ i lt. on i (omega a
 -- the rest of a chain that is on its way
 pub arrived : (id : List ℕ) (q : ℕ) (from : List ℕ) (start : List (List ℕ)) (goals places : List ℕ) (values : List (List ℕ)) (i : ℕ) (value : List ℕ)
     → IsOn id q from start goals places values i
-    → value ≡ chain id q i (slice_index places i) (slice_index goals i - slice_index places i) (vector values i)
-    → value ≡ chain id q i (slice_index from i) (slice_index goals i - slice_index from i) (vector start i)
+    → digest_bytes value 8 ≡ chain id q i (slice_index places i) (slice_index goals i - slice_index places i) (value_in values i)
+    → digest_bytes value 8 ≡ chain id q i (slice_index from i) (slice_index goals i - slice_index from i) (value_in start i)
 arrived id q from start goals places values i value on e =
     e ∙ ap (chain id q i (slice_index places i) (slice_index goals i - slice_index places i)) on.2
-    ∙ chain_there id q i (slice_index from i) (slice_index places i) (slice_index goals i) (vector start i) on.0 on.1
+    ∙ chain_there id q i (slice_index from i) (slice_index places i) (slice_index goals i) (value_in start i) on.0 on.1
 
 pub set_there : (id : List ℕ) (q : ℕ) (from : List ℕ) (start : List (List ℕ)) (goals places : List ℕ) (values : List (List ℕ)) (n i : ℕ) (value : List ℕ)
     → length values ≡ n → i < n
     → ((k : ℕ) → k < i → IsThere id q from start goals values k)
     → IsOn id q from start goals places values i
-    → value ≡ chain id q i (slice_index places i) (slice_index goals i - slice_index places i) (vector values i)
+    → digest_bytes value 8 ≡ chain id q i (slice_index places i) (slice_index goals i - slice_index places i) (value_in values i)
     → (k : ℕ) → k < i + 1 → IsThere id q from start goals (slice_set values i value) k
 set_there id q from start goals places values n i value lv lt before on e k low = elim (cases_eq k i) [
   | inl same ↦
@@ -89,4 +90,4 @@ set_on id q from start goals places values n i value on k le lt =
 
 pub begun : (id : List ℕ) (q : ℕ) (goals places : List ℕ) (values : List (List ℕ)) (n : ℕ) → ((i : ℕ) → i < n → slice_index places i ≤ slice_index goals i)
     → AreOn id q places values goals places values n
-begun id q goals places values n before = λ i lt. (omega arith, before i lt, sym (chain_start_none id q i (slice_index places i) (vector values i)))
+begun id q goals places values n before = λ i lt. (omega arith, before i lt, sym (chain_start_none id q i (slice_index places i) (value_in values i)))

@@ -1,52 +1,112 @@
--- Messages of 55 bytes, which are one block with their padding.
-use Rattle.std.proofs.Common.{◌≤◌, ◌≡◌, ℕ, ◌+◌, List, [], ◌∷◌, ◌++◌, length, take, refl, ap, sym, ◌∙◌, arith, length-append}
-use Rattle.std.specs.Int.{w16, w32, to_be_bytes}
-use Rattle.std.proofs.lemmas.List.{take_all}
-use Rattle.sha2.specs.Sha256.{padded_message, padding}
+-- The words of the blocks that steps hash.
+use Rattle.std.proofs.Common.{◌≡◌, ℕ, zero, suc, ◌+◌, ◌*◌, ◌/◌, ◌%◌, ◌^◌, ◌<◌, ◌≤◌, List, [], ◌∷◌, ◌++◌, length, slice_index, refl, ap, sym, ◌∙◌, arith, length-append, w32, Fits}
+use Rattle.std.specs.Int.{w16, to_be_bytes}
+use Rattle.std.proofs.lemmas.Nat.{from_be_bytes-to_be_bytes_4}
+use Rattle.sha2.specs.Sha256.{word_at, digest_bytes, padded_message}
+use Rattle.sha_lanes.specs.Lanes.{quad}
+use Rattle.std.specs.Simd.Lanes.{Each1}
+use Rattle.sha_lanes.proofs.QuadLemmas.{quad_eq, lane_below}
+use Rattle.sha_lanes.proofs.RoundLemmas.{at_lane}
+use Rattle.lmots_core.specs.Running.{three_and_one, head_word, step_message}
 
-abbrev pad : List ℕ
-pad = 0x80 ∷ 0 ∷ 0 ∷ 0 ∷ 0 ∷ 0 ∷ 0 ∷ 1 ∷ 0xb8 ∷ []
+-- what holds of sixteen words
+pub each16 : (P : ℕ → Type 0) → P 0 → P 1 → P 2 → P 3 → P 4 → P 5 → P 6 → P 7 → P 8 → P 9 → P 10 → P 11 → P 12 → P 13 → P 14 → P 15 → (i : ℕ) → i < 16 → P i
+each16 P p0 p1 p2 p3 p4 p5 p6 p7 p8 p9 p10 p11 p12 p13 p14 p15 zero h = p0
+each16 P p0 p1 p2 p3 p4 p5 p6 p7 p8 p9 p10 p11 p12 p13 p14 p15 (suc zero) h = p1
+each16 P p0 p1 p2 p3 p4 p5 p6 p7 p8 p9 p10 p11 p12 p13 p14 p15 (suc (suc zero)) h = p2
+each16 P p0 p1 p2 p3 p4 p5 p6 p7 p8 p9 p10 p11 p12 p13 p14 p15 (suc (suc (suc zero))) h = p3
+each16 P p0 p1 p2 p3 p4 p5 p6 p7 p8 p9 p10 p11 p12 p13 p14 p15 (suc (suc (suc (suc zero)))) h = p4
+each16 P p0 p1 p2 p3 p4 p5 p6 p7 p8 p9 p10 p11 p12 p13 p14 p15 (suc (suc (suc (suc (suc zero))))) h = p5
+each16 P p0 p1 p2 p3 p4 p5 p6 p7 p8 p9 p10 p11 p12 p13 p14 p15 (suc (suc (suc (suc (suc (suc zero)))))) h = p6
+each16 P p0 p1 p2 p3 p4 p5 p6 p7 p8 p9 p10 p11 p12 p13 p14 p15 (suc (suc (suc (suc (suc (suc (suc zero))))))) h = p7
+each16 P p0 p1 p2 p3 p4 p5 p6 p7 p8 p9 p10 p11 p12 p13 p14 p15 (suc (suc (suc (suc (suc (suc (suc (suc zero)))))))) h = p8
+each16 P p0 p1 p2 p3 p4 p5 p6 p7 p8 p9 p10 p11 p12 p13 p14 p15 (suc (suc (suc (suc (suc (suc (suc (suc (suc zero))))))))) h = p9
+each16 P p0 p1 p2 p3 p4 p5 p6 p7 p8 p9 p10 p11 p12 p13 p14 p15 (suc (suc (suc (suc (suc (suc (suc (suc (suc (suc zero)))))))))) h = p10
+each16 P p0 p1 p2 p3 p4 p5 p6 p7 p8 p9 p10 p11 p12 p13 p14 p15 (suc (suc (suc (suc (suc (suc (suc (suc (suc (suc (suc zero))))))))))) h = p11
+each16 P p0 p1 p2 p3 p4 p5 p6 p7 p8 p9 p10 p11 p12 p13 p14 p15 (suc (suc (suc (suc (suc (suc (suc (suc (suc (suc (suc (suc zero)))))))))))) h = p12
+each16 P p0 p1 p2 p3 p4 p5 p6 p7 p8 p9 p10 p11 p12 p13 p14 p15 (suc (suc (suc (suc (suc (suc (suc (suc (suc (suc (suc (suc (suc zero))))))))))))) h = p13
+each16 P p0 p1 p2 p3 p4 p5 p6 p7 p8 p9 p10 p11 p12 p13 p14 p15 (suc (suc (suc (suc (suc (suc (suc (suc (suc (suc (suc (suc (suc (suc zero)))))))))))))) h = p14
+each16 P p0 p1 p2 p3 p4 p5 p6 p7 p8 p9 p10 p11 p12 p13 p14 p15 (suc (suc (suc (suc (suc (suc (suc (suc (suc (suc (suc (suc (suc (suc (suc zero))))))))))))))) h = p15
+each16 P p0 p1 p2 p3 p4 p5 p6 p7 p8 p9 p10 p11 p12 p13 p14 p15 (suc (suc (suc (suc (suc (suc (suc (suc (suc (suc (suc (suc (suc (suc (suc (suc i)))))))))))))))) h = absurd (omega arith)
 
-padding_55 : (n : ℕ) → n ≡ 55 → padding n ≡ pad
-padding_55 n e = rw e refl
+-- the words of a step's block
+abbrev pub block_list : List ℕ → ℕ → ℕ → ℕ → List ℕ → List ℕ
+block_list id q c j v =
+    word_at id 0 ∷ word_at id 4 ∷ word_at id 8 ∷ word_at id 12 ∷ q ∷ head_word c j (slice_index v 0)
+    ∷ three_and_one (slice_index v 0) (slice_index v 1) ∷ three_and_one (slice_index v 1) (slice_index v 2) ∷ three_and_one (slice_index v 2) (slice_index v 3) ∷ three_and_one (slice_index v 3) (slice_index v 4)
+    ∷ three_and_one (slice_index v 4) (slice_index v 5) ∷ three_and_one (slice_index v 5) (slice_index v 6) ∷ three_and_one (slice_index v 6) (slice_index v 7)
+    ∷ three_and_one (slice_index v 7) 0x80000000 ∷ 0 ∷ 440 ∷ []
 
-pub length-message : (id q4 i2 j1 value : List ℕ) → length id ≡ 16 → length q4 ≡ 4 → length i2 ≡ 2 → length j1 ≡ 1 → length value ≡ 32
-    → length (id ++ q4 ++ i2 ++ j1 ++ value) ≡ 55
-length-message id q4 i2 j1 value a b c d e =
-    let l1 = length-append (id ++ q4 ++ i2 ++ j1) value in
-    let l2 = length-append (id ++ q4 ++ i2) j1 in
-    let l3 = length-append (id ++ q4) i2 in
-    let l4 = length-append id q4 in
-    omega (arith, l1, l2, l3, l4)
+block_of : (a0 a1 a2 a3 a4 a5 a6 a7 a8 a9 a10 a11 a12 a13 a14 a15 q c j : ℕ) (v : List ℕ) → q < 2 ^ 32 → (t : ℕ) → t < 16
+    → slice_index (block_list (a0 ∷ a1 ∷ a2 ∷ a3 ∷ a4 ∷ a5 ∷ a6 ∷ a7 ∷ a8 ∷ a9 ∷ a10 ∷ a11 ∷ a12 ∷ a13 ∷ a14 ∷ a15 ∷ []) q c j v) t ≡ word_at (padded_message (step_message (a0 ∷ a1 ∷ a2 ∷ a3 ∷ a4 ∷ a5 ∷ a6 ∷ a7 ∷ a8 ∷ a9 ∷ a10 ∷ a11 ∷ a12 ∷ a13 ∷ a14 ∷ a15 ∷ []) q c j (digest_bytes v 8))) (4 * t)
+unfolding digest_bytes
+block_of a0 a1 a2 a3 a4 a5 a6 a7 a8 a9 a10 a11 a12 a13 a14 a15 q c j v fits =
+    let id : List ℕ = a0 ∷ a1 ∷ a2 ∷ a3 ∷ a4 ∷ a5 ∷ a6 ∷ a7 ∷ a8 ∷ a9 ∷ a10 ∷ a11 ∷ a12 ∷ a13 ∷ a14 ∷ a15 ∷ [] in
+    each16 (λ t. slice_index (block_list id q c j v) t ≡ word_at (padded_message (step_message id q c j (digest_bytes v 8))) (4 * t))
+    refl refl refl refl (sym (from_be_bytes-to_be_bytes_4 q fits)) refl refl refl refl refl refl refl refl refl refl refl
 
--- a block that was put together part by part
-pub built : (id value q4 i2 j1 b1 b2 b3 b4 b5 b6 : List ℕ)
-    → length id ≡ 16 → length q4 ≡ 4 → length i2 ≡ 2 → length j1 ≡ 1 → length value ≡ 32 → length b6 ≡ 64
-    → take (0 + length id) b1 ≡ id
-    → take (16 + length q4) b2 ≡ take 16 b1 ++ q4
-    → take (20 + length i2) b3 ≡ take 20 b2 ++ i2
-    → take (22 + length j1) b4 ≡ take 22 b3 ++ j1
-    → take (23 + length value) b5 ≡ take 23 b4 ++ value
-    → take 64 b6 ≡ take 55 b5 ++ pad
-    → b6 ≡ padded_message (id ++ q4 ++ i2 ++ j1 ++ value)
-built id value q4 i2 j1 b1 b2 b3 b4 b5 b6 li lq lc lj lv l6 h1 h2 h3 h4 h5 h6 =
-    let z : 16 ≡ 0 + length id = omega arith in
-    let y : 55 ≡ 23 + length value = omega arith in
-    let a1 : take 16 b1 ≡ id = ap (λ (n : ℕ). take n b1) z ∙ h1 in
-    let z2 : 20 ≡ 16 + length q4 = omega arith in
-    let z3 : 22 ≡ 20 + length i2 = omega arith in
-    let z4 : 23 ≡ 22 + length j1 = omega arith in
-    let a2 : take 20 b2 ≡ id ++ q4 = ap (λ (n : ℕ). take n b2) z2 ∙ h2 ∙ ap (λ (l : List ℕ). l ++ q4) a1 in
-    let a3 : take 22 b3 ≡ id ++ q4 ++ i2 = ap (λ (n : ℕ). take n b3) z3 ∙ h3 ∙ ap (λ (l : List ℕ). l ++ i2) a2 in
-    let a4 : take 23 b4 ≡ id ++ q4 ++ i2 ++ j1 = ap (λ (n : ℕ). take n b4) z4 ∙ h4 ∙ ap (λ (l : List ℕ). l ++ j1) a3 in
-    let a5 : take 55 b5 ≡ id ++ q4 ++ i2 ++ j1 ++ value = ap (λ (n : ℕ). take n b5) y ∙ h5 ∙ ap (λ (l : List ℕ). l ++ value) a4 in
-    let m : List ℕ = id ++ q4 ++ i2 ++ j1 ++ value in
-    let padded : m ++ pad ≡ padded_message m = ap (λ (l : List ℕ). m ++ l) (sym (padding_55 (length m) (length-message id q4 i2 j1 value li lq lc lj lv))) in
-    sym (take_all 64 b6 (omega arith)) ∙ h6 ∙ ap (λ (l : List ℕ). l ++ pad) a5 ∙ padded
+-- they are those of the message with its padding
+pub block_words : (id : List ℕ) (q c j : ℕ) (v : List ℕ) → length id ≡ 16 → q < 2 ^ 32 → (t : ℕ) → t < 16
+    → slice_index (block_list id q c j v) t ≡ word_at (padded_message (step_message id q c j (digest_bytes v 8))) (4 * t)
+block_words [] q c j v long fits t lt = absurd (omega arith)
+block_words (a0 ∷ []) q c j v long fits t lt = absurd (omega arith)
+block_words (a0 ∷ a1 ∷ []) q c j v long fits t lt = absurd (omega arith)
+block_words (a0 ∷ a1 ∷ a2 ∷ []) q c j v long fits t lt = absurd (omega arith)
+block_words (a0 ∷ a1 ∷ a2 ∷ a3 ∷ []) q c j v long fits t lt = absurd (omega arith)
+block_words (a0 ∷ a1 ∷ a2 ∷ a3 ∷ a4 ∷ []) q c j v long fits t lt = absurd (omega arith)
+block_words (a0 ∷ a1 ∷ a2 ∷ a3 ∷ a4 ∷ a5 ∷ []) q c j v long fits t lt = absurd (omega arith)
+block_words (a0 ∷ a1 ∷ a2 ∷ a3 ∷ a4 ∷ a5 ∷ a6 ∷ []) q c j v long fits t lt = absurd (omega arith)
+block_words (a0 ∷ a1 ∷ a2 ∷ a3 ∷ a4 ∷ a5 ∷ a6 ∷ a7 ∷ []) q c j v long fits t lt = absurd (omega arith)
+block_words (a0 ∷ a1 ∷ a2 ∷ a3 ∷ a4 ∷ a5 ∷ a6 ∷ a7 ∷ a8 ∷ []) q c j v long fits t lt = absurd (omega arith)
+block_words (a0 ∷ a1 ∷ a2 ∷ a3 ∷ a4 ∷ a5 ∷ a6 ∷ a7 ∷ a8 ∷ a9 ∷ []) q c j v long fits t lt = absurd (omega arith)
+block_words (a0 ∷ a1 ∷ a2 ∷ a3 ∷ a4 ∷ a5 ∷ a6 ∷ a7 ∷ a8 ∷ a9 ∷ a10 ∷ []) q c j v long fits t lt = absurd (omega arith)
+block_words (a0 ∷ a1 ∷ a2 ∷ a3 ∷ a4 ∷ a5 ∷ a6 ∷ a7 ∷ a8 ∷ a9 ∷ a10 ∷ a11 ∷ []) q c j v long fits t lt = absurd (omega arith)
+block_words (a0 ∷ a1 ∷ a2 ∷ a3 ∷ a4 ∷ a5 ∷ a6 ∷ a7 ∷ a8 ∷ a9 ∷ a10 ∷ a11 ∷ a12 ∷ []) q c j v long fits t lt = absurd (omega arith)
+block_words (a0 ∷ a1 ∷ a2 ∷ a3 ∷ a4 ∷ a5 ∷ a6 ∷ a7 ∷ a8 ∷ a9 ∷ a10 ∷ a11 ∷ a12 ∷ a13 ∷ []) q c j v long fits t lt = absurd (omega arith)
+block_words (a0 ∷ a1 ∷ a2 ∷ a3 ∷ a4 ∷ a5 ∷ a6 ∷ a7 ∷ a8 ∷ a9 ∷ a10 ∷ a11 ∷ a12 ∷ a13 ∷ a14 ∷ []) q c j v long fits t lt = absurd (omega arith)
+block_words (a0 ∷ a1 ∷ a2 ∷ a3 ∷ a4 ∷ a5 ∷ a6 ∷ a7 ∷ a8 ∷ a9 ∷ a10 ∷ a11 ∷ a12 ∷ a13 ∷ a14 ∷ a15 ∷ []) q c j v long fits t lt = block_of a0 a1 a2 a3 a4 a5 a6 a7 a8 a9 a10 a11 a12 a13 a14 a15 q c j v fits t lt
+block_words (a0 ∷ a1 ∷ a2 ∷ a3 ∷ a4 ∷ a5 ∷ a6 ∷ a7 ∷ a8 ∷ a9 ∷ a10 ∷ a11 ∷ a12 ∷ a13 ∷ a14 ∷ a15 ∷ a16 ∷ rest) q c j v long fits t lt = absurd (omega arith)
+
+shift_of : (x b3 b2 b1 b0 n : ℕ) → x ≡ b3 * 16777216 + b2 * 65536 + b1 * 256 + b0 → b2 < 256 → b1 < 256 → b0 < 256 → n < 256
+    → (x * 256 % 4294967296 + n) % 4294967296 ≡ b2 * 16777216 + b1 * 65536 + b0 * 256 + n
+shift_of x b3 b2 b1 b0 n e h2 h1 h0 hn = omega arith
+
+-- three bytes of one word and one of the next
+pub shifted : (x y : ℕ) → x < 2 ^ 32 → y < 2 ^ 32 → (x * 2 ^ 8 % 2 ^ 32 + y / 2 ^ 24) % 2 ^ 32 ≡ three_and_one x y
+shifted x y hx hy =
+    let whole = from_be_bytes-to_be_bytes_4 x hx in
+    let moved = shift_of x (x / 16777216 % 256) (x / 65536 % 256) (x / 256 % 256) (x % 256) (y / 16777216) (omega (arith, whole)) (omega arith) (omega arith) (omega arith) (omega arith) in
+    omega (arith, moved)
+
+pub straddled_quad : (x y : List ℕ) → Each1 (Fits w32) x → Each1 (Fits w32) y
+    → quad (λ k. (slice_index x k * 2 ^ 8 % 2 ^ 32 + slice_index y k / 2 ^ 24) % 2 ^ 32) ≡ quad (λ k. three_and_one (slice_index x k) (slice_index y k))
+straddled_quad x y fx fy = quad_eq _ _ (λ k. shifted (slice_index x k) (slice_index y k) (lane_below x fx k) (lane_below y fy k))
+
+-- the number of a chain and a place, and a byte
+pub headed : (i j x : ℕ) → i < 2 ^ 16 → j < 256 → x < 2 ^ 32 → (i * 2 ^ 16 + j * 2 ^ 8 + x / 2 ^ 24) % 2 ^ 32 ≡ head_word i j x
+headed i j x hi hj hx = omega arith
 
 -- what a step hashes is short enough for one block
-pub length-step : (id : List ℕ) (q i j : ℕ) (value : List ℕ) → length id ≡ 16 → length value ≡ 32
-    → length (id ++ to_be_bytes w32 q ++ to_be_bytes w16 i ++ j ∷ [] ++ value) ≤ 55
-length-step id q i j value li lv =
-    let long = length-message id (to_be_bytes w32 q) (to_be_bytes w16 i) (j ∷ []) value li refl refl refl lv in
-    omega (arith, long)
+pub length-step : (id : List ℕ) (q i j : ℕ) (words : List ℕ) → length id ≡ 16 → length (step_message id q i j (digest_bytes words 8)) ≤ 55
+unfolding digest_bytes
+length-step id q i j words long =
+    let value : List ℕ = digest_bytes words 8 in
+    let l1 = length-append (id ++ to_be_bytes w32 q ++ to_be_bytes w16 i ++ j ∷ []) value in
+    let l2 = length-append (id ++ to_be_bytes w32 q ++ to_be_bytes w16 i) (j ∷ []) in
+    let l3 = length-append (id ++ to_be_bytes w32 q) (to_be_bytes w16 i) in
+    let l4 = length-append id (to_be_bytes w32 q) in
+    let l5 : length value ≡ 32 = refl in
+    omega (arith, l1, l2, l3, l4, l5)
+
+-- lane i of words that straddle
+pub straddled_lane : (s x y : List ℕ) (f g : ℕ → ℕ) (i : ℕ) → i < 4 → s ≡ quad (λ k. three_and_one (slice_index x k) (slice_index y k)) → x ≡ quad f → y ≡ quad g
+    → slice_index s i ≡ three_and_one (f i) (g i)
+straddled_lane s x y f g i lt e ex ey = at_lane s (λ k. three_and_one (slice_index x k) (slice_index y k)) i lt e ∙ rw (at_lane x f i lt ex, at_lane y g i lt ey) refl
+
+-- lane i of words that begin with chains and places
+pub heads_lane : (s x chains places : List ℕ) (f : ℕ → ℕ) (i : ℕ) → i < 4
+    → s ≡ quad (λ k. head_word (slice_index chains k) (slice_index places k) (slice_index x k)) → x ≡ quad f
+    → slice_index s i ≡ head_word (slice_index chains i) (slice_index places i) (f i)
+heads_lane s x chains places f i lt e ex =
+    at_lane s (λ k. head_word (slice_index chains k) (slice_index places k) (slice_index x k)) i lt e
+    ∙ ap (λ (n : ℕ). head_word (slice_index chains i) (slice_index places i) n) (at_lane x f i lt ex)

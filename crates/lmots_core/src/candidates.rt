@@ -1,10 +1,10 @@
 //! Candidate keys (RFC 8554, section 4.6).
 ghost use Rattle.std.specs.Prelude.{◌≡◌, ℕ, ◌<◌, length, take, slice_index};
 ghost use Rattle.std.specs.Int.{w32, to_be_bytes};
-ghost use Rattle.sha_lanes.specs.Lanes.{vector};
 ghost use Rattle.lmots_core.specs.Parameters.{type_code, chain_count, top_digit, signature_len, width};
 ghost use Rattle.lmots_core.specs.Digits.{coef};
 ghost use Rattle.lmots_core.specs.Chains.{joined};
+ghost use Rattle.lmots_core.specs.Running.{value_in};
 ghost use Rattle.lmots_core.specs.OneTime.{candidate_key, completed_value, key_of_ends, value_of};
 
 use crate::chains::run;
@@ -12,6 +12,7 @@ use crate::digits::{coef, with_checksum};
 use crate::kind::OtsKind;
 use crate::public_keys::{feed_values, key_hasher};
 use crate::signatures::message_digest;
+use sha_lanes::words_of;
 use sha2::Digest;
 
 // The values of a signature and the places where they stand.
@@ -19,7 +20,7 @@ fn load(
     signature: &[u8],
     digits: &[u8; 34],
     kind: OtsKind,
-    values: &mut [[u8; 32]],
+    values: &mut [[u32; 8]],
     places: &mut [u8],
 )
     requires sized { length signature.now ≡ signature_len kind }
@@ -27,13 +28,13 @@ fn load(
     requires places { length places.old ≡ chain_count kind }
     ensures values { length values.new ≡ length values.old }
     ensures places { length places.new ≡ length places.old }
-    ensures loaded { (i : ℕ) → i < chain_count kind → (vector values.new i ≡ value_of signature.now i) × (slice_index places.new i ≡ coef digits.now i (width kind)) }
+    ensures loaded { (i : ℕ) → i < chain_count kind → (value_in values.new i ≡ value_of signature.now i) × (slice_index places.new i ≡ coef digits.now i (width kind)) }
 {
     'load: for i in 0..kind.chain_count() {
         let at = usize::from(i);
         let mut value = [0u8; 32];
         value.copy_from_slice(&signature[36 + 32 * at..36 + 32 * at + 32]);
-        values[at] = value;
+        values[at] = words_of(&value);
         places[at] = coef(digits, i, kind);
     }
 }
@@ -45,7 +46,7 @@ fn candidate_in(
     kind: OtsKind,
     digits: &[u8; 34],
     signature: &[u8],
-    values: &mut [[u8; 32]],
+    values: &mut [[u32; 8]],
     places: &mut [u8],
     goals: &[u8],
 ) -> [u8; 32]
@@ -74,7 +75,7 @@ pub fn candidate(id: &[u8; 16], q: u32, kind: OtsKind, message: &[u8], signature
     let digest = message_digest(id, q, &signature[4..36], message);
     let digits = with_checksum(&digest, kind);
     let count = usize::from(kind.chain_count());
-    let mut values = [[0u8; 32]; 265];
+    let mut values = [[0u32; 8]; 265];
     let mut places = [0u8; 265];
     let goals = [kind.top_digit(); 265];
     candidate_in(

@@ -1,24 +1,26 @@
 //! The chains of one leaf, started and run four at a time (RFC 8554, sections 4.3, 4.5 and 4.6, and
 //! appendix A).
 //!
-//! The values of the chains stand in a table, with the place and the goal of each. A step is computed
-//! for four chains, and is written where it takes a chain on towards its goal. What the table says holds
-//! whichever chains are stepped; so what is left to choose is that no lane stands idle.
+//! The values of the chains stand in a table, as words, with the place and the goal of each. A step is
+//! computed for four chains, and is written where it takes a chain on towards its goal. What the table
+//! says holds whichever chains are stepped; so what is left to choose is that no lane stands idle.
 ghost use Rattle.std.specs.Prelude.{◌≡◌, ℕ, List, ◌+◌, ◌-◌, ◌*◌, ◌<◌, ◌≤◌, length, slice_index};
 ghost use Rattle.lmots_core.specs.Chains.{chain_start, chain};
-ghost use Rattle.sha_lanes.specs.Lanes.{vector};
-ghost use Rattle.lmots_core.specs.Running.{AreOn, IsThere, IsNext};
+ghost use Rattle.sha2.specs.Sha256.{digest_bytes};
+ghost use Rattle.lmots_core.specs.Running.{value_in, AreOn, IsThere, IsNext};
 
 use crate::seed::OtsSeed;
 use crate::steps::step4;
+use sha_lanes::words_of;
 
 // Where the chains of a leaf start, derived from the seed.
-pub(crate) fn starts(seed: &OtsSeed, q: u32, values: &mut [[u8; 32]])
+pub(crate) fn starts(seed: &OtsSeed, q: u32, values: &mut [[u32; 8]])
     requires some { 4 ≤ length values.old }
     requires few { length values.old ≤ 65536 }
     ensures long { length values.new ≡ length values.old }
-    ensures starts { (i : ℕ) → i < length values.old → vector values.new i ≡ chain_start seed.now q i }
+    ensures starts { (i : ℕ) → i < length values.old → value_in values.new i ≡ chain_start seed.now q i }
 {
+    let start = words_of(&seed.seed);
     'starts: for g in 0..(values.len() + 3) / 4 {
         let at = (4 * g).min(values.len() - 4);
         let next = step4(
@@ -26,7 +28,7 @@ pub(crate) fn starts(seed: &OtsSeed, q: u32, values: &mut [[u8; 32]])
             q,
             [at as u16, (at + 1) as u16, (at + 2) as u16, (at + 3) as u16],
             [0xff, 0xff, 0xff, 0xff],
-            &[seed.seed, seed.seed, seed.seed, seed.seed],
+            &[start, start, start, start],
         );
         values[at] = next[0];
         values[at + 1] = next[1];
@@ -38,12 +40,12 @@ pub(crate) fn starts(seed: &OtsSeed, q: u32, values: &mut [[u8; 32]])
 // Sets chain `at` on to place `j + 1`, unless it is elsewhere than at `j` or has come to its goal.
 #[inline(always)]
 fn commit(
-    values: &mut [[u8; 32]],
+    values: &mut [[u32; 8]],
     places: &mut [u8],
     goals: &[u8],
     at: usize,
     j: u8,
-    value: &[u8; 32],
+    value: &[u32; 8],
 )
     requires at { at < length values.old }
     requires places { length places.old ≡ length values.old }
@@ -65,7 +67,7 @@ fn commit(
 fn advance(
     id: &[u8; 16],
     q: u32,
-    values: &mut [[u8; 32]],
+    values: &mut [[u32; 8]],
     places: &mut [u8],
     goals: &[u8],
     at: &[usize; 4],
@@ -111,7 +113,7 @@ fn refill(places: &[u8], goals: &[u8], at: usize, next: usize) -> (usize, usize)
 }
 
 // Runs the chains in four lanes: a lane that comes to a goal takes the next chain.
-fn run_lanes(id: &[u8; 16], q: u32, values: &mut [[u8; 32]], places: &mut [u8], goals: &[u8])
+fn run_lanes(id: &[u8; 16], q: u32, values: &mut [[u32; 8]], places: &mut [u8], goals: &[u8])
     requires some { 4 ≤ length values.old }
     requires few { length values.old ≤ 65536 }
     requires places { length places.old ≡ length values.old }
@@ -141,9 +143,9 @@ fn run_lanes(id: &[u8; 16], q: u32, values: &mut [[u8; 32]], places: &mut [u8], 
 }
 
 // One chain alone, from `from` to `to`.
-fn chain(id: &[u8; 16], q: u32, i: u16, from: u8, to: u8, value: [u8; 32]) -> [u8; 32]
+fn chain(id: &[u8; 16], q: u32, i: u16, from: u8, to: u8, value: [u32; 8]) -> [u32; 8]
     requires { from ≤ to }
-    ensures { result ≡ chain id.now q i from (to - from) value }
+    ensures { digest_bytes result 8 ≡ chain id.now q i from (to - from) (digest_bytes value 8) }
 {
     let mut value = value;
     for j in from..to {
@@ -159,7 +161,7 @@ fn chain(id: &[u8; 16], q: u32, i: u16, from: u8, to: u8, value: [u8; 32]) -> [u
 }
 
 // Runs each chain of leaf `q` from its place to its goal, four at a time.
-pub(crate) fn run(id: &[u8; 16], q: u32, values: &mut [[u8; 32]], places: &mut [u8], goals: &[u8])
+pub(crate) fn run(id: &[u8; 16], q: u32, values: &mut [[u32; 8]], places: &mut [u8], goals: &[u8])
     requires some { 4 ≤ length values.old }
     requires few { length values.old ≤ 65536 }
     requires places { length places.old ≡ length values.old }

@@ -2,14 +2,15 @@
 ghost use Rattle.std.specs.Prelude.{◌≡◌, ℕ, List, ◌<◌, ◌++◌, [], ◌∷◌, length, slice_index};
 ghost use Rattle.std.specs.Int.{w32, to_be_bytes};
 ghost use Rattle.sha2.specs.Hashers.{Holds256};
-ghost use Rattle.sha_lanes.specs.Lanes.{vector};
 ghost use Rattle.lmots_core.specs.Parameters.{chain_count, top_digit};
 ghost use Rattle.lmots_core.specs.Chains.{joined};
+ghost use Rattle.lmots_core.specs.Running.{value_in};
 ghost use Rattle.lmots_core.specs.OneTime.{public_key};
 
 use crate::chains::{run, starts};
 use crate::kind::OtsKind;
 use crate::seed::OtsSeed;
+use sha_lanes::digest_of;
 use sha2::{Digest, Sha256};
 
 // D_PBLC, which marks the hash of a public key.
@@ -27,11 +28,11 @@ pub(crate) fn key_hasher(id: &[u8; 16], q: u32) -> Sha256
 }
 
 // Feeds values into a hasher.
-pub(crate) fn feed_values(hasher: &mut Sha256, values: &[[u8; 32]])
-    ensures { (front : List ℕ) → Holds256 hasher.old front → Holds256 hasher.new (front ++ joined (vector values.now) (length values.now)) }
+pub(crate) fn feed_values(hasher: &mut Sha256, values: &[[u32; 8]])
+    ensures { (front : List ℕ) → Holds256 hasher.old front → Holds256 hasher.new (front ++ joined (value_in values.now) (length values.now)) }
 {
     'values: for i in 0..values.len() {
-        hasher.update(&values[i]);
+        hasher.update(digest_of(&values[i]));
     }
 }
 
@@ -40,7 +41,7 @@ fn key_in(
     seed: &OtsSeed,
     q: u32,
     kind: OtsKind,
-    values: &mut [[u8; 32]],
+    values: &mut [[u32; 8]],
     places: &mut [u8],
     goals: &[u8],
 ) -> [u8; 32]
@@ -65,7 +66,7 @@ pub fn public_of(seed: &OtsSeed, q: u32, kind: OtsKind) -> [u8; 32]
     ensures { result ≡ public_key kind seed.now q }
 {
     let count = usize::from(kind.chain_count());
-    let mut values = [[0u8; 32]; 265];
+    let mut values = [[0u32; 8]; 265];
     let mut places = [0u8; 265];
     let goals = [kind.top_digit(); 265];
     key_in(

@@ -1,15 +1,16 @@
 //! One-time signatures (RFC 8554, section 4.5).
 ghost use Rattle.std.specs.Prelude.{◌≡◌, ℕ, ◌<◌, ◌≤◌, ◌+◌, ◌*◌, ◌++◌, OnOk, OnErr, length, slice_index, vec_len, vec_capacity};
-ghost use Rattle.sha_lanes.specs.Lanes.{vector};
 ghost use Rattle.lmots_core.specs.Parameters.{width, chain_count, signature_len};
 ghost use Rattle.lmots_core.specs.Digits.{coef};
 ghost use Rattle.lmots_core.specs.Chains.{joined};
+ghost use Rattle.lmots_core.specs.Running.{value_in};
 ghost use Rattle.lmots_core.specs.OneTime.{message_digest, signed_value, signature};
 
 use crate::chains::{run, starts};
 use crate::digits::{coef, with_checksum};
 use crate::kind::OtsKind;
 use crate::seed::OtsSeed;
+use sha_lanes::digest_of;
 use sha2::{Digest, Sha256};
 use std::alloc::AllocError;
 
@@ -47,7 +48,7 @@ fn sign_values(
     q: u32,
     kind: OtsKind,
     digits: &[u8; 34],
-    values: &mut [[u8; 32]],
+    values: &mut [[u32; 8]],
     places: &mut [u8],
     goals: &mut [u8],
 )
@@ -56,7 +57,7 @@ fn sign_values(
     requires goals { length goals.old ≡ chain_count kind }
     requires first { (i : ℕ) → i < chain_count kind → slice_index places.old i ≡ 0 }
     ensures long { length values.new ≡ length values.old }
-    ensures signed { (i : ℕ) → i < chain_count kind → vector values.new i ≡ signed_value kind seed.now q digits.now i }
+    ensures signed { (i : ℕ) → i < chain_count kind → value_in values.new i ≡ signed_value kind seed.now q digits.now i }
 {
     set_goals(digits, kind, goals);
     starts(seed, q, values);
@@ -64,14 +65,14 @@ fn sign_values(
 }
 
 // Appends values, within the room that `into` has.
-fn append_values(values: &[[u8; 32]], into: &mut Vec<u8>)
+fn append_values(values: &[[u32; 8]], into: &mut Vec<u8>)
     requires { vec_len into.old + 32 * length values.now ≤ vec_capacity into.old }
-    ensures items { into.new.items ≡ into.old.items ++ joined (vector values.now) (length values.now) }
+    ensures items { into.new.items ≡ into.old.items ++ joined (value_in values.now) (length values.now) }
     ensures len { vec_len into.new ≡ vec_len into.old + 32 * length values.now }
     ensures room { vec_capacity into.old ≤ vec_capacity into.new }
 {
     for i in 0..values.len() {
-        into.extend_from_slice(&values[i]).unwrap();
+        into.extend_from_slice(&digest_of(&values[i])).unwrap();
     }
 }
 
@@ -81,7 +82,7 @@ fn write_in(
     q: u32,
     kind: OtsKind,
     digits: &[u8; 34],
-    values: &mut [[u8; 32]],
+    values: &mut [[u32; 8]],
     places: &mut [u8],
     goals: &mut [u8],
     into: &mut Vec<u8>,
@@ -107,7 +108,7 @@ fn write_values(seed: &OtsSeed, q: u32, kind: OtsKind, digits: &[u8; 34], into: 
     ensures room { vec_capacity into.old ≤ vec_capacity into.new }
 {
     let count = usize::from(kind.chain_count());
-    let mut values = [[0u8; 32]; 265];
+    let mut values = [[0u32; 8]; 265];
     let mut places = [0u8; 265];
     let mut goals = [0u8; 265];
     write_in(

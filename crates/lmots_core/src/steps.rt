@@ -1,55 +1,119 @@
 //! One step of four chains of a leaf at once (RFC 8554, sections 4.3, 4.5 and 4.6, and appendix A).
-ghost use Rattle.std.specs.Prelude.{◌≡◌, ℕ, ◌+◌, ◌<◌, ◌≤◌, ◌++◌, [], ◌∷◌, length, take, slice_index};
-ghost use Rattle.std.specs.Int.{w16, w32, to_be_bytes};
-ghost use Rattle.sha2.specs.Sha256.{padded_message};
-ghost use Rattle.sha_lanes.specs.Lanes.{vector};
+//!
+//! A value of a chain is eight words, whose bytes are the 32 that the standard hashes. They stand behind
+//! 23 bytes in the block of a step, so that a word of the block has three bytes of one word of the value
+//! and one of the next.
+ghost use Rattle.std.specs.Prelude.{◌≡◌, ℕ, ◌+◌, ◌/◌, ◌^◌, ◌<◌, ◌≤◌, slice_index};
+ghost use Rattle.sha2.specs.Sha256.{add32, word_at, digest_bytes, padded_message};
+ghost use Rattle.sha_lanes.specs.Lanes.{quad, vector, HaveBlocks};
 ghost use Rattle.lmots_core.specs.Chains.{chain_step};
+ghost use Rattle.lmots_core.specs.Running.{three_and_one, head_word, step_message};
 
 use sha_lanes::hash4;
+use std::simd::prelude::*;
 
-// What pads the 55 bytes of a step to a block: a bit 1, zeros, and their length of 440 bits.
-const PADDING: [u8; 9] = [0x80, 0, 0, 0, 0, 0, 0, 1, 0xb8];
+// A bit 1, which ends the 55 bytes of a step, and their length in bits; between the two stand zeros.
+const END_MARK: u32 = 0x8000_0000;
 
-// Writes `part` behind the first `at` bytes.
+const STEP_BITS: u32 = 440;
+
+// Word `at` of four values.
 #[inline(always)]
-fn put(block: &mut [u8; 64], at: usize, part: &[u8])
-    requires { at + length part.now ≤ 64 }
-    ensures { take (at + length part.now) block.new ≡ take at block.old ++ part.now }
+fn column(values: &[[u32; 8]; 4], at: usize) -> u32x4
+    requires { at < 8 }
+    ensures { result ≡ quad (λ k. slice_index (vector values.now k) at) }
 {
-    block[at..at + part.len()].copy_from_slice(part);
+    u32x4::from_array([values[0][at], values[1][at], values[2][at], values[3][at]])
 }
 
-// The block of one step of chain `i`, at place `j`: 55 bytes with their padding.
+// Words of which each has the last three bytes of `x` and the first of `y`.
 #[inline(always)]
-fn step_block(id: &[u8; 16], q: u32, i: u16, j: u8, value: &[u8; 32]) -> [u8; 64]
-    ensures block { result ≡ padded_message (id.now ++ to_be_bytes w32 q ++ to_be_bytes w16 i ++ j ∷ [] ++ value.now) }
-    ensures long { length value.now ≡ 32 }
+fn straddled(x: u32x4, y: u32x4) -> u32x4
+    ensures { result ≡ quad (λ k. three_and_one (slice_index x k) (slice_index y k)) }
 {
-    let mut block = [0u8; 64];
-    put(&mut block, 0, id);
-    put(&mut block, 16, &q.to_be_bytes());
-    put(&mut block, 20, &i.to_be_bytes());
-    put(&mut block, 22, &[j]);
-    put(&mut block, 23, value);
-    put(&mut block, 55, &PADDING);
-    block
+    (x << u32x4::splat(8)) + (y >> u32x4::splat(24))
+}
+
+// The word that begins with the number of a chain and a place, before the first byte of a word `x` is
+// added to it.
+#[inline(always)]
+fn number(i: u16, j: u8) -> u32
+    ensures { (x : ℕ) → x < 2 ^ 32 → add32 result (x / 2 ^ 24) ≡ head_word i j x }
+{
+    u32::from(i) * 0x1_0000 + u32::from(j) * 0x100
+}
+
+// The words that begin with the numbers of four chains and their places, in front of the first bytes of
+// the words `first`.
+#[inline(always)]
+fn heads(chains: [u16; 4], places: [u8; 4], first: u32x4) -> u32x4
+    ensures { result ≡ quad (λ k. head_word (slice_index chains k) (slice_index places k) (slice_index first k)) }
+{
+    u32x4::from_array([
+        number(chains[0], places[0]),
+        number(chains[1], places[1]),
+        number(chains[2], places[2]),
+        number(chains[3], places[3]),
+    ]) + (first >> u32x4::splat(24))
+}
+
+// The word at byte `at` of the identifier, in each lane.
+#[inline(always)]
+fn id_words(id: &[u8; 16], at: usize) -> u32x4
+    requires { at + 4 ≤ 16 }
+    ensures { result ≡ quad (λ _. word_at id.now at) }
+{
+    u32x4::splat(u32::from_be_bytes([id[at], id[at + 1], id[at + 2], id[at + 3]]))
+}
+
+// The blocks of one step of four chains, word by word: 55 bytes each, with their padding.
+#[inline(always)]
+fn step_words(
+    id: &[u8; 16],
+    q: u32,
+    chains: [u16; 4],
+    places: [u8; 4],
+    values: &[[u32; 8]; 4],
+) -> [u32x4; 16]
+    ensures { HaveBlocks result (λ k. padded_message (step_message id.now q (slice_index chains k) (slice_index places k) (digest_bytes (vector values.now k) 8))) }
+{
+    let a = column(values, 0);
+    let b = column(values, 1);
+    let c = column(values, 2);
+    let d = column(values, 3);
+    let e = column(values, 4);
+    let f = column(values, 5);
+    let g = column(values, 6);
+    let h = column(values, 7);
+    [
+        id_words(id, 0),
+        id_words(id, 4),
+        id_words(id, 8),
+        id_words(id, 12),
+        u32x4::splat(q),
+        heads(chains, places, a),
+        straddled(a, b),
+        straddled(b, c),
+        straddled(c, d),
+        straddled(d, e),
+        straddled(e, f),
+        straddled(f, g),
+        straddled(g, h),
+        straddled(h, u32x4::splat(END_MARK)),
+        u32x4::splat(0),
+        u32x4::splat(STEP_BITS),
+    ]
 }
 
 // One step of four chains of leaf `q`: chain `chains[k]` has `values[k]` at place `places[k]`.
-#[tactic(auto, unfolding(crate::specs::Chains::chain_step))]
 pub(crate) fn step4(
     id: &[u8; 16],
     q: u32,
     chains: [u16; 4],
     places: [u8; 4],
-    values: &[[u8; 32]; 4],
-) -> [[u8; 32]; 4]
-    ensures { (k : ℕ) → k < 4 → vector result k ≡ chain_step id.now q (slice_index chains k) (slice_index places k) (vector values.now k) }
+    values: &[[u32; 8]; 4],
+) -> [[u32; 8]; 4]
+    ensures { (k : ℕ) → k < 4 → digest_bytes (vector result k) 8 ≡ chain_step id.now q (slice_index chains k) (slice_index places k) (digest_bytes (vector values.now k) 8) }
 {
-    hash4(&[
-        step_block(id, q, chains[0], places[0], &values[0]),
-        step_block(id, q, chains[1], places[1], &values[1]),
-        step_block(id, q, chains[2], places[2], &values[2]),
-        step_block(id, q, chains[3], places[3], &values[3]),
-    ])
+    hash4(&step_words(id, q, chains, places, values))
 }

@@ -1,17 +1,17 @@
--- What may be let go of the pleas without a change of an answer on what is left, by whoever keeps the counts of the clusters beside them.
-use Rattle.std.specs.Prelude.{Bool, not, List, filter}
+-- What is compared with the pleas that are let go.
+use Rattle.std.specs.Prelude.{Bool, List, [], ◌∷◌, ◌++◌, not, filter}
 use Rattle.remote_view.specs.declared.heard.Matter.{Matter}
 use Rattle.remote_view.specs.declared.heard.Heard.{Heard}
-use Rattle.remote_view.specs.Pleading.{Pleading, is_past}
+use Rattle.remote_view.specs.Pleading.{Pleading, is_past, after_rvc}
 
--- the pleas on matters that may still be asked about
+-- the pleas on matters that are so
 abbrev pub those_on : (Matter → Bool) → List Heard → List Heard
-those_on is_open heard = filter (λ h. is_open h.matter) heard
+those_on is_so heard = filter (λ h. is_so h.matter) heard
 
--- the pleading that has only the Drvcs on such matters, and knows only of them whether it said its own
-abbrev pub opened : (Matter → Bool) → Pleading → Pleading
-opened is_open s = record s { drvcs = those_on is_open s.drvcs; said = filter is_open s.said }
+-- without the Rvcs that are past
+abbrev pub without_past : Pleading → Pleading
+without_past s = record s { rvcs = filter (λ h. not (is_past s h)) s.rvcs }
 
--- the Rvcs whose count isn't past
-abbrev pub unanswered : Pleading → List Heard
-unanswered s = filter (λ h. not (is_past s h)) s.rvcs
+-- what an Rvc that counts would leave if nothing were let go
+abbrev pub hoarding : Pleading → Heard → Pleading
+hoarding s plea = record (after_rvc s plea) { rvcs = s.rvcs ++ plea ∷ [] }

@@ -1,29 +1,36 @@
-//! What the answers are worth, over any list of calls, and which pleas an answer doesn't need.
-ghost use Rattle.std.specs.Prelude.{◌≡◌, ◌≤◌, ◌+◌, ℕ, Bool, true, false, List, if◌then◌else◌};
-ghost use Rattle.fab_base.specs.Quorums.{greatest_faulty, IsQuorum, AreMembers};
-ghost use Rattle.fab_base.specs.Roster.{size_of};
+//! What the answers are worth, over any list of calls, what is let go, and how much is kept.
+ghost use Rattle.std.specs.Prelude.{◌≡◌, ◌≤◌, ◌+◌, ◌*◌, ◌++◌, [], ◌∷◌, ℕ, Bool, true, false, List, length, max, IsTrue};
+ghost use Rattle.std.specs.List.{list_any};
+ghost use Rattle.fab_base.specs.Limits.{Roster, IsWithinLimits};
+ghost use Rattle.fab_base.specs.declared.limits.TheConstants.{MOST_MEMBERS, MOST_REPLICAS};
+ghost use Rattle.fab_base.specs.declared.ids.ReplicaId.{ReplicaId};
 ghost use Rattle.fab_base.specs.declared.messages.Plea.{Plea};
+ghost use Rattle.fab_base.specs.Quorums.{greatest_faulty, IsQuorum, AreMembers};
+ghost use Rattle.fab_base.specs.Roster.{size_of, is_replica};
+ghost use Rattle.remote_view.specs.declared.bounds.TheConstants.{MOST_OPEN_PLEAS};
 ghost use Rattle.remote_view.specs.declared.heard.Heard.{Heard};
 ghost use Rattle.remote_view.specs.declared.heard.Matter.{Matter};
 ghost use Rattle.remote_view.specs.declared.plight.Plight.{Plight};
-ghost use Rattle.remote_view.specs.Heard.{has_matter, was_heard, number_on, members_on};
-ghost use Rattle.remote_view.specs.Plights.{rvc_plight_at};
-ghost use Rattle.remote_view.specs.Pleading.{Pleading, IsPleading, MayHearDrvc, MayHearRvc, drvc_of, rvc_of, some_correct, drvc_plight, is_past, rvc_plight, after_drvc, after_rvc};
-ghost use Rattle.remote_view.specs.Calls.{Call, MayCome, after_call, sends, starts, says, times};
-ghost use Rattle.remote_view.specs.Forgetting.{opened, unanswered};
+ghost use Rattle.remote_view.specs.Heard.{has_matter, was_heard, members_on, is_on};
+ghost use Rattle.remote_view.specs.Pleading.{Pleading, IsPleading, AreFew, MayHearDrvc, MayHearRvc, fresh, drvc_of, rvc_of, present_count, started_count, drvcs_are_full, drvc_plight, own_matter, say_answer, rvcs_are_full, rvc_plight, after_drvc, after_rvc, after_forgetting};
+ghost use Rattle.remote_view.specs.Calls.{Call, MayCome, after_call, after_calls, MayFollow, AreOpen, forgets, sends, starts, says, gives, times, sent_with, started_with, greatest};
+ghost use Rattle.remote_view.specs.Forgetting.{without_past, hoarding};
 
 /// The law of once. Over any list of calls, from whatever was heard and said before: `Send` is answered at most once for each target,
 /// round and count (`send`), `Start` at most once for each asking cluster and count (`start`), and a replica is told at most once to say
-/// its own Drvc of a target, round and count, by `Join`, by a `Send` that joins or by `say` (`say`).
+/// its own Drvc of a target, round and count, by `Join`, by a `Send` that joins or by `say` (`say`). For `send` and `say` nothing may be
+/// asked of a target and round that were forgotten before; that is so where nothing is forgotten (`unforgotten`).
 pub fn once_law()
-    ensures send { (s : Pleading) (calls : List Call) (matter : Matter) → times (sends matter) s calls ≤ 1 }
+    ensures send { (s : Pleading) (calls : List Call) (matter : Matter) → AreOpen calls → times (sends matter) s calls ≤ 1 }
     ensures start { (s : Pleading) (calls : List Call) (cluster count : ℕ) → times (starts cluster count) s calls ≤ 1 }
-    ensures say { (s : Pleading) (calls : List Call) (matter : Matter) → times (says matter) s calls ≤ 1 }
+    ensures say { (s : Pleading) (calls : List Call) (matter : Matter) → AreOpen calls → times (says matter) s calls ≤ 1 }
+    ensures unforgotten { (calls : List Call) → list_any forgets calls ≡ false → AreOpen calls }
 {}
 
 /// The law of members (GeoBFT). What is kept is whole, and calls keep it so (`stays`). Then behind `Send` stand the equal Drvcs of a
 /// quorum of distinct members of the own cluster (`send`), behind `Join` those of f + 1 (`join`), and behind `Start` the equal Rvcs of
-/// f + 1 distinct members of the cluster that asks (`start`). Among f + 1 members one is correct, where no more than f are faulty.
+/// f + 1 distinct members of the cluster that asks, this one and those that counted before it (`start`). Among f + 1 members one is
+/// correct, where no more than f are faulty.
 pub fn members_law()
     ensures stays { (s : Pleading) (call : Call) → IsPleading s → MayCome s call → IsPleading (after_call s call) }
     ensures send { (s : Pleading) (plea : Plea) (joins : Bool) → IsPleading s → MayHearDrvc s plea → drvc_plight s (drvc_of plea) ≡ Plight.Send joins
@@ -34,18 +41,51 @@ pub fn members_law()
         AreMembers n (greatest_faulty n + 1) (members_on n (after_drvc s (drvc_of plea)).drvcs (drvc_of plea).matter) }
     ensures start { (s : Pleading) (plea : Plea) → IsPleading s → MayHearRvc s plea → rvc_plight s (rvc_of plea) ≡ Plight.Start
         → let n = size_of s.roster plea.signer.cluster in
-        AreMembers n (greatest_faulty n + 1) (members_on n (after_rvc s (rvc_of plea)).rvcs (rvc_of plea).matter) }
+        AreMembers n (greatest_faulty n + 1) (members_on n (s.rvcs ++ rvc_of plea ∷ []) (rvc_of plea).matter) }
 {}
 
-/// The law of forgetting (ours). A matter that nobody will be asked about again, since its certificate is kept, may be let go: what is
-/// left of the Drvcs and of what was said answers each Drvc on another matter as all of it does (`drvc`), and tells as well whether this
-/// replica said its own (`said`). So may the Rvcs that are past: one that isn't is answered by the others alone (`rvc`). Whoever lets
-/// pleas go keeps the counts of the clusters beside them, since a count is read off all that were heard. No call lets go of any yet.
+/// The law of counts (GeoBFT). Over any list of calls whose conditions hold the present count for a target becomes the greatest of what it was and one more
+/// than the counts of the Drvcs on it that were answered `Send` (`present`), and the started count of a cluster the greatest of what it
+/// was and one more than the counts of its Rvcs that were answered `Start` (`started`). Both begin at 0. So neither falls, forgetting or
+/// not.
+pub fn count_law()
+    ensures present { (s : Pleading) (calls : List Call) (target : ℕ) → 1 ≤ target → MayFollow s calls
+        → present_count (after_calls s calls) target ≡ max (present_count s target) (greatest (sent_with target) s calls) }
+    ensures started { (s : Pleading) (calls : List Call) (cluster : ℕ) → 1 ≤ cluster → MayFollow s calls
+        → started_count (after_calls s calls) cluster ≡ max (started_count s cluster) (greatest (started_with cluster) s calls) }
+{}
+
+/// The law of forgetting (ours). After `forget` each Drvc on another matter is answered as before it, where its signer wasn't at its
+/// limit (`drvc`): who was may have room then. It is told as before whether the signer's equal one counts (`twice`) and whether this
+/// replica said its own (`said`), `say` answers on other targets and rounds as before (`say`), and so is each Rvc answered (`rvc`).
+/// That Rvcs are let go which are past changes no answer to an Rvc either, where its signer isn't at its limit (`past`), and so the
+/// Rvcs after a `Start` are answered as if it had let go of none (`start`).
 pub fn forgetting_law()
-    ensures drvc { (s : Pleading) (is_open : Matter → Bool) (plea : Heard) → is_open plea.matter ≡ true
-        → drvc_plight (opened is_open s) plea ≡ drvc_plight s plea }
-    ensures said { (s : Pleading) (is_open : Matter → Bool) (matter : Matter) → is_open matter ≡ true
-        → has_matter (opened is_open s).said matter ≡ has_matter s.said matter }
-    ensures rvc { (s : Pleading) (plea : Heard) → is_past s plea ≡ false
-        → rvc_plight s plea ≡ (if was_heard (unanswered s) plea then Plight.Twice else rvc_plight_at (some_correct s plea.matter.cluster) (number_on (unanswered s) plea.matter + 1)) }
+    ensures twice { (s : Pleading) (target round : ℕ) (plea : Heard) → is_on target round plea.matter ≡ false
+        → was_heard (after_forgetting s target round).drvcs plea ≡ was_heard s.drvcs plea }
+    ensures drvc { (s : Pleading) (target round : ℕ) (plea : Heard) → is_on target round plea.matter ≡ false → drvcs_are_full s plea ≡ false
+        → drvc_plight (after_forgetting s target round) plea ≡ drvc_plight s plea }
+    ensures said { (s : Pleading) (target round : ℕ) (matter : Matter) → is_on target round matter ≡ false
+        → has_matter (after_forgetting s target round).said matter ≡ has_matter s.said matter }
+    ensures say { (s : Pleading) (target round other_target other_round : ℕ) → is_on target round (own_matter s other_target other_round) ≡ false
+        → say_answer (after_forgetting s target round) other_target other_round ≡ say_answer s other_target other_round }
+    ensures rvc { (s : Pleading) (target round : ℕ) (plea : Heard) → rvc_plight (after_forgetting s target round) plea ≡ rvc_plight s plea }
+    ensures past { (s : Pleading) (plea : Heard) → rvcs_are_full s plea ≡ false → rvc_plight (without_past s) plea ≡ rvc_plight s plea }
+    ensures start { (s : Pleading) (plea other : Heard) → rvc_plight s plea ≡ Plight.Start → rvcs_are_full (hoarding s plea) other ≡ false
+        → rvc_plight (after_rvc s plea) other ≡ rvc_plight (hoarding s plea) other }
+{}
+
+/// The law of bounds (ours). Where no signer has more than `MOST_OPEN_PLEAS` pleas of a kind that count, calls keep it so (`stays`), and
+/// it is so from the first on, whatever is called (`few`). So no more than 640 Drvcs are kept (`drvcs`), and no more than 1,920 Rvcs, 64
+/// for each replica (`rvcs`), over any calls whose conditions hold. Of what this replica said no more than 640 are kept beside those
+/// that the caller had it say, at calls of `say` that gave a count (`said`): a join is kept as long as a Drvc on its matter.
+pub fn bound_law()
+    ensures stays { (s : Pleading) (call : Call) → AreFew s → AreFew (after_call s call) }
+    ensures few { (r : Roster) (me : ReplicaId) (calls : List Call) → AreFew (after_calls (fresh r me) calls) }
+    ensures drvcs { (r : Roster) (me : ReplicaId) (calls : List Call) → IsWithinLimits r → IsTrue (is_replica r me) → MayFollow (fresh r me) calls
+        → length (after_calls (fresh r me) calls).drvcs ≤ MOST_OPEN_PLEAS * MOST_MEMBERS }
+    ensures rvcs { (r : Roster) (me : ReplicaId) (calls : List Call) → IsWithinLimits r → IsTrue (is_replica r me) → MayFollow (fresh r me) calls
+        → length (after_calls (fresh r me) calls).rvcs ≤ MOST_OPEN_PLEAS * MOST_REPLICAS }
+    ensures said { (r : Roster) (me : ReplicaId) (calls : List Call) → IsWithinLimits r → IsTrue (is_replica r me) → MayFollow (fresh r me) calls
+        → length (after_calls (fresh r me) calls).said ≤ MOST_OPEN_PLEAS * MOST_MEMBERS + times gives (fresh r me) calls }
 {}

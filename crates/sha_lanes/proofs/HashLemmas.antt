@@ -4,7 +4,9 @@ use Rattle.std.specs.Int.{w64, to_be_bytes}
 use Rattle.std.proofs.lemmas.List.{take_all, length-replicate}
 use Rattle.sha2.specs.Sha256.{compress, digest_bytes, hash_after, initial_hash_256, padded_message, padding, sha256}
 use Rattle.sha2.proofs.Absorbing256.{hash_after_next}
-use Rattle.sha_lanes.specs.Lanes.{quad, lane}
+use Rattle.sha2.proofs.Schedule256.{IsWindow_first}
+use Rattle.sha_lanes.specs.Lanes.{quad, lane, HaveBlocks, AreWindows}
+use Rattle.sha_lanes.proofs.QuadLemmas.{lane_at, length-lane}
 
 -- what holds of four lanes
 pub each4 : (P : ℕ → Type 0) → P 0 → P 1 → P 2 → P 3 → (i : ℕ) → i < 4 → P i
@@ -18,6 +20,10 @@ each4 P p0 p1 p2 p3 (suc (suc (suc (suc i)))) h = absurd (omega arith)
 pub initial_lane : (i : ℕ) → i < 4
     → lane (quad (λ _. 0x6A09E667) ∷ quad (λ _. 0xBB67AE85) ∷ quad (λ _. 0x3C6EF372) ∷ quad (λ _. 0xA54FF53A) ∷ quad (λ _. 0x510E527F) ∷ quad (λ _. 0x9B05688C) ∷ quad (λ _. 0x1F83D9AB) ∷ quad (λ _. 0x5BE0CD19) ∷ []) i ≡ initial_hash_256
 initial_lane = each4 (λ i. lane (quad (λ _. 0x6A09E667) ∷ quad (λ _. 0xBB67AE85) ∷ quad (λ _. 0x3C6EF372) ∷ quad (λ _. 0xA54FF53A) ∷ quad (λ _. 0x510E527F) ∷ quad (λ _. 0x9B05688C) ∷ quad (λ _. 0x1F83D9AB) ∷ quad (λ _. 0x5BE0CD19) ∷ []) i ≡ initial_hash_256) refl refl refl refl
+
+-- the words of four blocks are the windows that the rounds begin with
+pub windows : (w : List (List ℕ)) (b : ℕ → List ℕ) → length w ≡ 16 → HaveBlocks w b → AreWindows b w 16
+windows w b long held = λ i lt. IsWindow_first (b i) (lane w i) (length-lane w i ∙ long) (λ t low. lane_at w i t ∙ held i lt t low)
 
 -- a message of up to 55 bytes is one block with its padding
 length-padded : (m : List ℕ) → length m ≤ 55 → length (padded_message m) ≡ 64

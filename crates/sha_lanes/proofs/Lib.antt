@@ -1,4 +1,6 @@
 pub mod QuadLemmas
 pub mod RoundLemmas
 pub mod HashLemmas
+pub mod DigestLemmas
 mod ChMaj
+mod Rotations

@@ -1,7 +1,7 @@
-//! Digests of four messages of one block each (FIPS 180-4, sections 5 and 6.2).
-ghost use Rattle.std.specs.Prelude.{◌≡◌, ℕ, List, ◌+◌, ◌<◌, ◌≤◌, length};
-ghost use Rattle.sha2.specs.Sha256.{word_at, compress, digest_bytes, initial_hash_256, padded_message, sha256};
-ghost use Rattle.sha_lanes.specs.Lanes.{quad, lane, vector, AreWindows};
+//! Hash values of four messages of one block each (FIPS 180-4, sections 5 and 6.2).
+ghost use Rattle.std.specs.Prelude.{◌≡◌, ℕ, List, ◌<◌, ◌≤◌, length};
+ghost use Rattle.sha2.specs.Sha256.{compress, digest_bytes, initial_hash_256, padded_message, sha256};
+ghost use Rattle.sha_lanes.specs.Lanes.{lane, vector, HaveBlocks};
 
 use crate::block::compress;
 use std::simd::prelude::*;
@@ -11,53 +11,22 @@ const IV: [u32; 8] = [
     0x6a09e667, 0xbb67ae85, 0x3c6ef372, 0xa54ff53a, 0x510e527f, 0x9b05688c, 0x1f83d9ab, 0x5be0cd19,
 ];
 
-// The word at byte `at` of a block.
+// The hash value in lane `k`.
 #[inline(always)]
-fn load_be(block: &[u8; 64], at: usize) -> u32
-    requires { at + 4 ≤ 64 }
-    ensures { result ≡ word_at block.now at }
-{
-    u32::from_be_bytes([block[at], block[at + 1], block[at + 2], block[at + 3]])
-}
-
-// The words at byte `at` of four blocks.
-#[inline(always)]
-fn load(blocks: &[[u8; 64]; 4], at: usize) -> u32x4
-    requires { at + 4 ≤ 64 }
-    ensures { result ≡ quad (λ k. word_at (vector blocks.now k) at) }
-{
-    u32x4::from_array([
-        load_be(&blocks[0], at),
-        load_be(&blocks[1], at),
-        load_be(&blocks[2], at),
-        load_be(&blocks[3], at),
-    ])
-}
-
-// The 16 words of each block, in its lane (section 5.2.1).
-#[inline(always)]
-fn words_of(blocks: &[[u8; 64]; 4]) -> [u32x4; 16]
-    ensures { AreWindows (vector blocks.now) result 16 }
-{
-    let mut words = [u32x4::splat(0); 16];
-    'load: for t in 0..16 {
-        words[t] = load(blocks, 4 * t);
-    }
-    words
-}
-
-// The hash value in lane `k`, as bytes.
-#[inline(always)]
-fn bytes_of(v: &[u32x4; 8], k: usize) -> [u8; 32]
+fn row(v: &[u32x4; 8], k: usize) -> [u32; 8]
     requires { k < 4 }
-    ensures { result ≡ digest_bytes (lane v.now k) 8 }
+    ensures { result ≡ lane v.now k }
 {
-    let mut out = [0u8; 32];
-    'words: for j in 0..8 {
-        let word = v[j].to_array()[k];
-        out[4 * j..4 * j + 4].copy_from_slice(&word.to_be_bytes());
-    }
-    out
+    [
+        v[0].to_array()[k],
+        v[1].to_array()[k],
+        v[2].to_array()[k],
+        v[3].to_array()[k],
+        v[4].to_array()[k],
+        v[5].to_array()[k],
+        v[6].to_array()[k],
+        v[7].to_array()[k],
+    ]
 }
 
 // The initial hash value in each lane.
@@ -77,18 +46,15 @@ fn initial() -> [u32x4; 8]
     ]
 }
 
-/// The digests of four blocks, each hashed alone from the initial hash value (FIPS 180-4, section
-/// 6.2.2). Where a block is a message of up to 55 bytes with its padding (section 5.1.1), its digest is
-/// the SHA-256 of that message.
-pub fn hash4(blocks: &[[u8; 64]; 4]) -> [[u8; 32]; 4]
-    ensures blocks { (i : ℕ) → i < 4 → vector result i ≡ digest_bytes (compress initial_hash_256 (vector blocks.now i)) 8 }
-    ensures messages { (i : ℕ) (m : List ℕ) → i < 4 → length m ≤ 55 → vector blocks.now i ≡ padded_message m → vector result i ≡ sha256 m }
+/// The hash values of four blocks, each hashed alone from the initial hash value (FIPS 180-4, section
+/// 6.2.2). Vector `t` of `words` has word `t` of each block in its lane (section 5.2.1), and row `i` of
+/// the result is the eight words of block `i`'s hash value. Where a block is a message of up to 55 bytes
+/// with its padding (section 5.1.1), these are the words of the message's SHA-256, whose bytes
+/// [`digest_of`](crate::digest_of) gives.
+pub fn hash4(words: &[u32x4; 16]) -> [[u32; 8]; 4]
+    ensures blocks { (b : ℕ → List ℕ) → HaveBlocks words.now b → (i : ℕ) → i < 4 → vector result i ≡ compress initial_hash_256 (b i) }
+    ensures messages { (b m : ℕ → List ℕ) → HaveBlocks words.now b → (i : ℕ) → i < 4 → length (m i) ≤ 55 → b i ≡ padded_message (m i) → digest_bytes (vector result i) 8 ≡ sha256 (m i) }
 {
-    let v = compress(&initial(), &words_of(blocks));
-    [
-        bytes_of(&v, 0),
-        bytes_of(&v, 1),
-        bytes_of(&v, 2),
-        bytes_of(&v, 3),
-    ]
+    let v = compress(&initial(), words);
+    [row(&v, 0), row(&v, 1), row(&v, 2), row(&v, 3)]
 }

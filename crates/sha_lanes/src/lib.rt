@@ -4,13 +4,17 @@
 //! the four at once, so that four messages want about half the instructions that they want one after
 //! another.
 //!
-//! - [`hash4`] digests four blocks, each of which is a message with its padding: up to 55 bytes.
+//! - [`hash4`] hashes four blocks, each of which is a message with its padding: up to 55 bytes. It takes
+//!   and gives words, so that what is hashed again need not become bytes in between.
+//! - [`digest_of`] and [`words_of`] go from the words of a hash value to the bytes of a digest and back.
 //!
 //! Each lane equals a definition of `sha2`, which hashes everything else. No call here takes memory.
 #![tactic(auto)]
 
 mod block;
+mod digests;
 mod hashing;
 mod words;
 
+pub use digests::{digest_of, words_of};
 pub use hashing::hash4;

@@ -6,7 +6,7 @@ use Rattle.lmots_core.specs.Chains.{joined}
 use Rattle.lmots_core.specs.OneTime.{key_of_ends, completed_value}
 use Rattle.lmots_core.proofs.ChainLemmas.{joined_same}
 use Rattle.lmots_core.proofs.DigitLemmas.{coef_le_top}
-use Rattle.sha_lanes.specs.Lanes.{vector}
+use Rattle.lmots_core.specs.Running.{value_in}
 use Rattle.lmots_core.proofs.LeafLemmas.{completed}
 use Rattle.lmots_core.proofs.candidates.candidate_in.Goals as goal
 
@@ -28,8 +28,8 @@ returns c =
     let l1 = c.load.ensures.values in
     let y = completed_value kind id q c.args.digits.now c.args.signature.now in
     let long : length ends ≡ chain_count kind = c.run.ensures.long ∙ l1 ∙ c.requires.values in
-    let same : joined (vector ends) (length ends) ≡ joined y (chain_count kind) =
-    ap (joined (vector ends)) long ∙ joined_same (vector ends) y (chain_count kind) (λ i lt.
-    completed kind id q i c.args.digits.now c.args.signature.now (slice_index c.load.new.places i) (slice_index c.args.goals.now i) (vector c.load.new.values i) (vector ends i)
+    let same : joined (value_in ends) (length ends) ≡ joined y (chain_count kind) =
+    ap (joined (value_in ends)) long ∙ joined_same (value_in ends) y (chain_count kind) (λ i lt.
+    completed kind id q i c.args.digits.now c.args.signature.now (slice_index c.load.new.places i) (slice_index c.args.goals.now i) (value_in c.load.new.values i) (value_in ends i)
     (c.load.ensures.loaded i lt).1 (c.requires.last i lt) (c.load.ensures.loaded i lt).0 (c.run.ensures.there i (omega (arith, l1)))) in
     c.finalize.ensures _ (c.feed_values.ensures front c.key_hasher-hasher.ensures) ∙ ap (λ (l : List ℕ). sha256 (front ++ l)) same

@@ -17,10 +17,10 @@ load-preserved c =
     let l0 = c.load.invariant.0 in
     let l1 = c.load.invariant.1 in
     let count = c.chain_count-i-end.ensures in (
-      length-set c.load.values c.from-at.result c.copy_from_slice.new.self ∙ l0,
+      length-set c.load.values c.from-at.result c.words_of.result ∙ l0,
       length-set c.load.places c.from-at.result c.coef.result ∙ l1,
       λ k low. (
-        filled_rows (λ j. value_of c.args.signature.now j) c.load.values c.load.i c.from-at.result c.copy_from_slice.new.self from (omega (arith, l0, count)) value
+        filled_rows (λ j. value_of c.args.signature.now j) c.load.values c.load.i c.from-at.result c.words_of.result from (omega (arith, l0, count)) (c.words_of.ensures ∙ value)
             (λ j lt. (c.load.invariant.2 j lt).0) k low,
         filled (λ j. coef c.args.digits.now j (width c.args.kind)) c.load.places c.load.i c.from-at.result c.coef.result from (omega (arith, l1, count)) c.coef.ensures
             (λ j lt. (c.load.invariant.2 j lt).1) k low,

@@ -1,5 +1,5 @@
 use Rattle.std.proofs.Common.{◌≡◌, ◌++◌, ◌∙◌, ap, List, ℕ, length}
-use Rattle.sha_lanes.specs.Lanes.{vector}
+use Rattle.lmots_core.specs.Running.{value_in}
 use Rattle.lmots_core.specs.Parameters.{chain_count}
 use Rattle.lmots_core.specs.Chains.{joined}
 use Rattle.lmots_core.specs.OneTime.{signed_value}
@@ -13,4 +13,4 @@ returns-clause-items c =
     let long : length values ≡ chain_count c.args.kind = c.sign_values.ensures.long ∙ c.requires.values in
     c.append_values.ensures.items
     ∙ ap (λ (l : List ℕ). c.args.into.now.items ++ l)
-    (ap (joined (vector values)) long ∙ joined_same (vector values) y (chain_count c.args.kind) c.sign_values.ensures.signed)
+    (ap (joined (value_in values)) long ∙ joined_same (value_in values) y (chain_count c.args.kind) c.sign_values.ensures.signed)

@@ -1,9 +1,14 @@
-use Rattle.remote_view.proofs.Forgetting.{drvc_stays_so, said_stays, rvc_stays_so}
+use Rattle.std.proofs.Common.{refl}
+use Rattle.remote_view.proofs.Letting.{heard_elsewhere, drvc_elsewhere, said_elsewhere, say_elsewhere, past_stays_so, start_stays_so}
 use Rattle.remote_view.proofs.laws.forgetting_law.Goals as goal
 
 pub returns : goal.returns
 returns c = record {
-  drvc = drvc_stays_so;
-  said = λ s is_open matter is_so. said_stays is_open s.said matter is_so;
-  rvc = rvc_stays_so;
+  twice = heard_elsewhere;
+  drvc = drvc_elsewhere;
+  said = said_elsewhere;
+  say = say_elsewhere;
+  rvc = λ s target round plea. refl;
+  past = past_stays_so;
+  start = start_stays_so;
 }

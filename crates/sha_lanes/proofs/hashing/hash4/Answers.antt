@@ -1,21 +1,18 @@
-use Rattle.std.proofs.Common.{◌≡◌, ◌<◌, ℕ, List, [], ◌∷◌, ap, ◌∙◌, arith}
+use Rattle.std.proofs.Common.{◌≡◌, ◌<◌, ℕ, List, [], ◌∷◌, ap, ◌∙◌}
 use Rattle.sha2.specs.Sha256.{compress, digest_bytes, initial_hash_256}
-use Rattle.sha_lanes.specs.Lanes.{vector, lane}
-use Rattle.sha_lanes.proofs.HashLemmas.{each4, one_block}
+use Rattle.sha_lanes.specs.Lanes.{vector, lane, HaveBlocks}
+use Rattle.sha_lanes.proofs.HashLemmas.{each4, one_block, windows}
 use Rattle.sha_lanes.proofs.hashing.hash4.Goals as goal
 
 pub returns : goal.returns
 returns c =
-    let blocks = vector c.args.blocks.now in
-    let state : (i : ℕ) → i < 4 → lane c.compress-v.result i ≡ compress initial_hash_256 (vector c.args.blocks.now i) =
-    λ i lt. c.compress-v.ensures blocks c.words_of.ensures i lt ∙ ap (λ (h : List ℕ). compress h (blocks i)) (c.initial.ensures i lt) in
-    let digests : (i : ℕ) → i < 4 → vector (c.bytes_of.result ∷ c.bytes_of-2.result ∷ c.bytes_of-3.result ∷ c.bytes_of-4.result ∷ []) i ≡ digest_bytes (compress initial_hash_256 (vector c.args.blocks.now i)) 8 =
-    each4 (λ i. vector (c.bytes_of.result ∷ c.bytes_of-2.result ∷ c.bytes_of-3.result ∷ c.bytes_of-4.result ∷ []) i ≡ digest_bytes (compress initial_hash_256 (blocks i)) 8)
-    (c.bytes_of.ensures ∙ ap (λ (h : List ℕ). digest_bytes h 8) (state 0 (omega arith)))
-    (c.bytes_of-2.ensures ∙ ap (λ (h : List ℕ). digest_bytes h 8) (state 1 (omega arith)))
-    (c.bytes_of-3.ensures ∙ ap (λ (h : List ℕ). digest_bytes h 8) (state 2 (omega arith)))
-    (c.bytes_of-4.ensures ∙ ap (λ (h : List ℕ). digest_bytes h 8) (state 3 (omega arith))) in
+    let words : List (List ℕ) = c.args.words.now in
+    let rows : List (List ℕ) = c.row.result ∷ c.row-2.result ∷ c.row-3.result ∷ c.row-4.result ∷ [] in
+    let split : (i : ℕ) → i < 4 → vector rows i ≡ lane c.compress-v.result i =
+    each4 (λ i. vector rows i ≡ lane c.compress-v.result i) c.row.ensures c.row-2.ensures c.row-3.ensures c.row-4.ensures in
+    let hashed : (b : ℕ → List ℕ) → HaveBlocks words b → (i : ℕ) → i < 4 → vector rows i ≡ compress initial_hash_256 (b i) =
+    λ b held i lt. split i lt ∙ c.compress-v.ensures b (windows words b c.told-words held) i lt ∙ ap (λ (h : List ℕ). compress h (b i)) (c.initial.ensures i lt) in
     record {
-      blocks = digests;
-      messages = λ i m lt short padded. one_block m (blocks i) _ short padded (digests i lt);
+      blocks = hashed;
+      messages = λ b m held i lt short padded. one_block (m i) (b i) _ short padded (ap (λ (h : List ℕ). digest_bytes h 8) (hashed b held i lt));
     }
