@@ -24,7 +24,7 @@ trap 'exit 130' INT TERM
 # The sum of a crate's own text: the files of src/, specs/ and proofs/ in the order of their names' bytes, and its line of crates.txt.
 own_sum() {
   {
-    grep "^$1:" "$top/crates.txt"
+    grep "^$1[ :]" "$top/crates.txt"
     cd "$top/crates/$1" && find src specs proofs -type f -print0 2>/dev/null | LC_ALL=C sort -z | xargs -0 sha256sum
   } | sha256sum | cut -d ' ' -f 1
 }
@@ -40,10 +40,10 @@ record_of() {
 
 is_current() { [ -f "${2%.edit}.record" ] && [ "$(record_of "$1" "$2")" = "$(cat "${2%.edit}.record")" ]; }
 
-is_ours() { grep -q "^$1:" "$top/crates.txt"; }
+is_ours() { grep -q "^$1[ :]" "$top/crates.txt"; }
 
 # deps CRATE: the libraries of its line; below_once CRATE: ours among those that it stands on, each once and after those that it uses.
-deps() { sed -n "s/^$1://p" "$top/crates.txt"; }
+deps() { sed -n "s/^$1\( [^:]*\)\{0,1\}://p" "$top/crates.txt"; }
 
 below_once() {
   awk -F: -v start="$1" '
@@ -54,7 +54,7 @@ below_once() {
       for (i = 1; i <= count; i++) if (names[i] in below) visit(names[i])
       if (name != start) print name
     }
-    /^[a-z]/ { below[$1] = $2 }
+    /^[a-z]/ { split($1, words, " "); below[words[1]] = $2 }
     END { visit(start) }' "$top/crates.txt"
 }
 

@@ -9,7 +9,8 @@
 //!   is noted already, as `said` tells beforehand. `count(target)` is the count.
 //! - For each Drvc that is heard, the own ones too, call `hear_drvc`. At `Join` say the Drvc with the plea's target, round and count. At
 //!   `Send` send the Rvc, and where it has `joins` say the Drvc first.
-//! - For each Rvc that is heard call `hear_rvc`. At `Start` note which cluster asks for which round, and ask for the next view.
+//! - For each Rvc that is heard call `hear_rvc`. At `Start` note which cluster asks for which round, and ask for the next view. Who passes
+//!   on each Rvc that counts asks `rvc_counts` before: a `Kept` doesn't tell, and one that doesn't count would go round for ever.
 //! - Where a certificate is newly kept call `forget(target, round)`, and from then on give no Drvc on it to `hear_drvc`.
 //!
 //! A replica's core, in short, where `kept` says whether it keeps the certificate of a cluster and a round:

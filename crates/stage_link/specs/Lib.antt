@@ -1,0 +1,4 @@
+pub mod Links
+pub mod Producers
+pub mod Rule
+pub mod Queues

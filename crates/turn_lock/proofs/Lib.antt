@@ -1,0 +1,5 @@
+pub mod SeatRows
+pub mod Histories
+mod Keeping
+mod Telling
+pub mod Joining

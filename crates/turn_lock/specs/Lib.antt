@@ -1,0 +1,5 @@
+pub mod Numbers
+pub mod Histories
+pub mod Views
+pub mod Rule
+pub mod Passes
