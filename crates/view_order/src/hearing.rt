@@ -127,12 +127,12 @@ fn taken(
 ) -> Result<Local, NoMemory>
     requires live { order.old.shut ≡ false }
     requires whole { IsLocalState order.old.roster order.old.me order.old.local }
-    ensures answer { IfOk result (λ told. (c : ViewChange) → c.view ≡ view
-        → told.answer ≡ (change_taken order.old.roster order.old.me order.old.local changes.now c).answer) }
-    ensures outs { IfOk result (λ told. (c : ViewChange) → c.view ≡ view
-        → told.outs ≡ (change_taken order.old.roster order.old.me order.old.local changes.now c).outs) }
-    ensures state { OnOk result ((c : ViewChange) → c.view ≡ view
-        → order.new ≡ with_local order.old (change_taken order.old.roster order.old.me order.old.local changes.now c).local) }
+    ensures answer { (c : ViewChange) → c.view ≡ view
+        → IfOk result (λ told. told.answer ≡ (change_taken order.old.roster order.old.me order.old.local changes.now c).answer) }
+    ensures outs { (c : ViewChange) → c.view ≡ view
+        → IfOk result (λ told. told.outs ≡ (change_taken order.old.roster order.old.me order.old.local changes.now c).outs) }
+    ensures state { (c : ViewChange) → c.view ≡ view
+        → OnOk result (order.new ≡ with_local order.old (change_taken order.old.roster order.old.me order.old.local changes.now c).local) }
     ensures same { IsSame order.old order.new }
 {
     let mut outs = Outs::new(alloc);
@@ -152,10 +152,10 @@ fn follow(
 ) -> Result<(), NoMemory>
     requires live { order.old.shut ≡ false }
     requires whole { IsLocalState order.old.roster order.old.me order.old.local }
-    ensures outs { OnOk result ((c : ViewChange) → c.view ≡ view
-        → outs.new ≡ outs.old ++ (change_taken order.old.roster order.old.me order.old.local changes.now c).outs) }
-    ensures state { OnOk result ((c : ViewChange)
-        → order.new ≡ with_local order.old (change_taken order.old.roster order.old.me order.old.local changes.now c).local) }
+    ensures outs { (c : ViewChange) → c.view ≡ view
+        → OnOk result (outs.new ≡ outs.old ++ (change_taken order.old.roster order.old.me order.old.local changes.now c).outs) }
+    ensures state { (c : ViewChange) → c.view ≡ view
+        → OnOk result (order.new ≡ with_local order.old (change_taken order.old.roster order.old.me order.old.local changes.now c).local) }
     ensures same { IsSame order.old order.new }
 {
     join(alloc, order, changes, outs)?;

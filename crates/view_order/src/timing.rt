@@ -1,8 +1,9 @@
 //! Whether a replica that waited long enough asks for the next view (PBFT, section 4.4; what is due is ours).
 ghost use Rattle.std.specs.Prelude.{◌≡◌, ◌+◌, ◌<◌, ◌≤◌, ◌^◌, ◌&&◌, false, not, length, nat_lt, IfOk, OnOk};
+ghost use Rattle.std.specs.Option.{is_some};
 ghost use Rattle.fab_base.specs.Limits.{IsWithinLimits};
 ghost use Rattle.fab_base.specs.declared.limits.TheConstants.{GREATEST_NUMBER};
-ghost use Rattle.pbft_slots.specs.Window.{high};
+ghost use Rattle.pbft_slots.specs.Window.{high, batch_at};
 ghost use Rattle.fab_machine.specs.State.{wanted};
 ghost use Rattle.fab_machine.specs.LocalState.{IsLocalState};
 ghost use Rattle.fab_machine.specs.Step.{can_time_out};
@@ -88,9 +89,16 @@ fn holds_above(slots: &Slots<Vote>, executed: u64) -> bool
 {
     let first = slots.low() + 1;
     for slot in first..first + slots.width() {
-        if executed < slot && slots.batch(slot).is_some() {
+        if holds(slots, executed, slot) {
             return true;
         }
     }
     false
+}
+
+/// Whether this slot is above the executed rounds and holds a batch.
+fn holds(slots: &Slots<Vote>, executed: u64, slot: u64) -> bool
+    ensures { result ≡ (nat_lt executed slot && is_some (batch_at slots.now slot)) }
+{
+    executed < slot && slots.batch(slot).is_some()
 }
