@@ -45,9 +45,9 @@ whole_after old now l changes (Ok t) is keeps live state err =
 pub whole_sealed : {T E : Type 0} (old mid now : Ordering) (l : Local) (before given after : List ViewChange) (told : Result T E) → AreViews (views_of old before)
     → old.shut ≡ false → (IsWhole old old.local before → IsWhole old l given) → IsSame old mid → OnOk told (mid ≡ with_local old l) → OnOk told (after ≡ given)
     → OnOk told (now ≡ mid) → OnErr told (ordering.IsShut mid now) → AreViews (views_of now after)
-whole_sealed old mid now l before given after (Err e) is live keeps same state kept open err =
+whole_sealed old mid now l before given after (Err e) is live keeps same state kept stays err =
     shut_so old now before after is (err.0 ∙ same.0, err.1 ∙ same.1, err.2)
-whole_sealed old mid now l before given after (Ok t) is live keeps same state kept open err =
+whole_sealed old mid now l before given after (Ok t) is live keeps same state kept stays err =
     let both = keeps (is.whole live, is.kept live) in
     let whole : AreViews (views_of (with_local old l) given) = record {
       limits = is.limits;
@@ -55,8 +55,12 @@ whole_sealed old mid now l before given after (Ok t) is live keeps same state ke
       whole = λ h. both.0;
       kept = λ h. both.1;
     } in
-    subst (λ changes. AreViews (views_of now changes)) (sym kept) (subst (λ o. AreViews (views_of o given)) (sym (open ∙ state)) whole)
+    subst (λ changes. AreViews (views_of now changes)) (sym kept) (subst (λ o. AreViews (views_of o given)) (sym (stays ∙ state)) whole)
 
 pub always : {T E X : Type 0} (told : Result T E) → X → OnOk told X
 always (Err e) x = tt
 always (Ok t) x = x
+
+pub map_ok : {T E X Y : Type 0} (told : Result T E) → (X → Y) → OnOk told X → OnOk told Y
+map_ok (Err e) f x = tt
+map_ok (Ok t) f x = f x

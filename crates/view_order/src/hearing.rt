@@ -1,6 +1,7 @@
 //! What is heard of any kind: a ViewChange, a NewView, and what leaves the view as it is.
 ghost use Rattle.std.specs.Prelude.{◌≡◌, ◌++◌, ◌&&◌, false, nat_eq, nat_lt, IfOk, OnOk};
 ghost use Rattle.std.specs.List.{filter, list_any};
+ghost use Rattle.fab_base.specs.Limits.{IsWithinLimits};
 ghost use Rattle.fab_base.specs.declared.messages.Message.{Message};
 ghost use Rattle.fab_base.specs.declared.messages.ViewChange.{ViewChange};
 ghost use Rattle.fab_rules.specs.Shape.{IsShaped};
@@ -29,6 +30,7 @@ pub(crate) fn attend(
     message: Message,
 ) -> Result<Local, NoMemory>
     requires live { order.old.shut ≡ false }
+    requires limits { IsWithinLimits order.old.roster }
     requires shaped { IsShaped order.old.roster message }
     requires whole { IsLocalState order.old.roster order.old.me order.old.local }
     ensures answer { IfOk result (λ told. told.answer ≡ (attend order.old.roster order.old.me order.old.local changes.old.items message).answer) }
@@ -170,6 +172,7 @@ fn hear_new_view(
     new_view: &NewView,
 ) -> Result<Local, NoMemory>
     requires live { order.old.shut ≡ false }
+    requires limits { IsWithinLimits order.old.roster }
     requires shaped { IsShaped order.old.roster (Message.NewView new_view.now) }
     requires whole { IsLocalState order.old.roster order.old.me order.old.local }
     ensures answer { IfOk result (λ told. told.answer ≡ (hear_new_view order.old.roster order.old.me order.old.local new_view.now).answer) }

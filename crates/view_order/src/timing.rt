@@ -2,8 +2,10 @@
 ghost use Rattle.std.specs.Prelude.{◌≡◌, ◌+◌, ◌<◌, ◌≤◌, ◌^◌, ◌&&◌, false, not, length, nat_lt, IfOk, OnOk};
 ghost use Rattle.std.specs.Option.{is_some};
 ghost use Rattle.fab_base.specs.Limits.{IsWithinLimits};
+ghost use Rattle.fab_base.specs.declared.answers.Answer.{Answer};
 ghost use Rattle.fab_base.specs.declared.limits.TheConstants.{GREATEST_NUMBER};
 ghost use Rattle.pbft_slots.specs.Window.{high, batch_at};
+ghost use Rattle.fab_machine.specs.Changing.{asked};
 ghost use Rattle.fab_machine.specs.State.{wanted};
 ghost use Rattle.fab_machine.specs.LocalState.{IsLocalState};
 ghost use Rattle.fab_machine.specs.Step.{can_time_out};
@@ -40,12 +42,28 @@ pub(crate) fn timeout(
             outs: Outs::new(alloc),
         });
     }
-    if !is_late(order, own, known) {
-        return Ok(Local {
+    if is_late(order, own, known) {
+        ask_next(alloc, order)
+    } else {
+        Ok(Local {
             answer: Answer::Calm,
             outs: Outs::new(alloc),
-        });
+        })
     }
+}
+
+/// The view above the wanted one is asked for.
+fn ask_next(alloc: Global, order: &mut Order) -> Result<Local, NoMemory>
+    requires live { order.old.shut ≡ false }
+    requires room { wanted order.old.local < GREATEST_NUMBER }
+    requires whole { IsLocalState order.old.roster order.old.me order.old.local }
+    ensures answer { IfOk result (λ told. told.answer ≡ Answer.Asked (wanted order.old.local + 1)) }
+    ensures outs { IfOk result (λ told. told.outs
+        ≡ (asked order.old.roster order.old.me order.old.local (wanted order.old.local + 1) (Answer.Asked (wanted order.old.local + 1))).outs) }
+    ensures state { OnOk result (order.new ≡ with_local order.old
+        (asked order.old.roster order.old.me order.old.local (wanted order.old.local + 1) (Answer.Asked (wanted order.old.local + 1))).local) }
+    ensures same { IsSame order.old order.new }
+{
     let view = wanted(order) + 1;
     asked(alloc, order, view, Answer::Asked { view })
 }
@@ -56,7 +74,7 @@ pub(crate) fn is_due(order: &Order, own: bool, known: bool) -> bool
     requires whole { IsLocalState order.now.roster order.now.me order.now.local }
     ensures { result ≡ can_time_out order.now.roster order.now.me order.now.local own known }
 {
-    order.low() <= order.executed() && is_late(order, own, known)
+    is_late(order, own, known) && order.low() <= order.executed()
 }
 
 /// Whether a view is to be asked for, if the replica isn't behind: the own cluster's certificate of the next round isn't kept, something is due

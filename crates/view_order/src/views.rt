@@ -16,6 +16,7 @@ ghost use Rattle.view_order.specs.Views.{with_views, IsShut, can_by};
 
 use crate::NoMemory;
 use crate::asking::asked;
+use crate::fields::in_field;
 use crate::hearing::attend;
 use crate::timing::{is_due, timeout};
 use crate::trying::ViewTry;
@@ -150,6 +151,7 @@ impl ViewOrder {
         ensures live { OnOk result (self.old.shut ≡ false) }
         ensures err { OnErr result (IsShut self.old self.new) }
     {
+        in_field(&digest);
         self.order.served(round, batch, outcomes, digest)
     }
 
@@ -224,7 +226,7 @@ impl ViewOrder {
 /// The same, and the order is shut where memory was refused.
 fn seal(order: &mut Order, told: Result<Local, NoMemory>) -> Result<Local, NoMemory>
     ensures told { result ≡ told }
-    ensures open { OnOk told (order.new ≡ order.old) }
+    ensures same { OnOk told (order.new ≡ order.old) }
     ensures shut { OnErr told (ordering.IsShut order.old order.new) }
 {
     if told.is_err() {

@@ -15,4 +15,4 @@ invariant_of-self c =
     whole_sealed o c.asked.new.order c.seal.new.order (asked o.roster o.me o.local view (Answer.Asked view)).local changes changes changes c.asked.result
     c.self.invariant c.if-self.false
     (λ is. (let upto = view_upto o.local is.0.wants in (asked_state o.roster o.me o.local view (omega (arith, wants, upto)) is.0, is.1)))
-    c.asked.ensures.same c.asked.ensures.state (always c.asked.result refl) c.seal.ensures.open c.seal.ensures.shut
+    c.asked.ensures.same c.asked.ensures.state (always c.asked.result refl) c.seal.ensures.same c.seal.ensures.shut
