@@ -2,6 +2,8 @@
 use Rattle.std.proofs.Common.{◌≡◌, ℕ, ◌+◌, ◌-◌, ◌<◌, ◌≤◌, max, List, [], ◌∷◌, ◌++◌, map, length, inl, inr, refl, sym, ap, ◌∙◌, arith}
 use Rattle.std.specs.List.{range_with_len}
 use Rattle.std.proofs.lemmas.Bool.{cases_lt}
+use Rattle.fab_base.specs.Limits.{Roster}
+use Rattle.fab_base.specs.declared.ids.ReplicaId.{ReplicaId}
 use Rattle.fab_base.specs.declared.messages.Vote.{Vote}
 use Rattle.fab_base.specs.declared.messages.NewView.{NewView}
 use Rattle.fab_base.specs.declared.messages.StableVote.{StableVote}
@@ -13,6 +15,8 @@ use Rattle.pbft_slots.specs.Window.{Window}
 use Rattle.fab_machine.specs.Adopting.{low_by, proof_by, chosen_out, chosen_outs, filled, entering, entered, entered_outs, adopted}
 use Rattle.fab_machine.specs.Checkpointing.{heard_again}
 use Rattle.fab_machine.specs.State.{Local}
+use Rattle.fab_machine.specs.Voting.{Told}
+use Rattle.fab_machine.specs.Hearing.{hear}
 use Rattle.fab_machine.specs.declared.outs.Out.{Out}
 use Rattle.fab_machine.proofs.Filling.{filled_is}
 use Rattle.local_order.specs.Ordering.{Ordering, with_local}
@@ -84,3 +88,13 @@ up_to_mark mark low base m = elim (cases_lt low base) [ inl more ↦ omega (arit
 
 pub from_mark : (mark top next : ℕ) → next ≡ max top mark → mark + 1 ≤ next + 1
 from_mark mark top next n = elim (cases_lt top mark) [ inl less ↦ omega (arith, n, less) | inr no_less ↦ omega (arith, n, no_less) ]
+
+-- what is considered again changes no answer
+again_answer : (r : Roster) (me : ReplicaId) (t : Told) (messages : List Message) → (heard_again r me t messages).answer ≡ t.answer
+again_answer r me t [] = refl
+again_answer r me t (m ∷ rest) =
+    again_answer r me (record { answer = t.answer; local = (hear r me t.local m).local; outs = t.outs ++ (hear r me t.local m).outs }) rest
+
+pub adopted_answer : (o : Ordering) (x : NewView) → (adopted o.roster o.me o.local x).answer ≡ Answer.Heard Take.Taken
+adopted_answer o x =
+    again_answer o.roster o.me (record { answer = Answer.Heard Take.Taken; local = entered o.local x; outs = Out.Clear ∷ entered_outs o.roster o.me o.local x }) o.local.kept

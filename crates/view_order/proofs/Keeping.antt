@@ -1,6 +1,7 @@
 -- After a call what is kept across views is whole or shut.
 use Rattle.std.proofs.Common.{◌≡◌, false, true, List, Result, Ok, Err, refl, sym, ap, subst, ◌∙◌}
-use Rattle.std.specs.Prelude.{OnOk, OnErr, IsTrue}
+use Rattle.std.specs.Prelude.{IfOk, OnOk, OnErr, IsTrue}
+use Rattle.std.specs.Result.{result_and}
 use Rattle.fab_base.specs.Limits.{IsWithinLimits}
 use Rattle.fab_base.specs.Roster.{is_replica}
 use Rattle.fab_base.specs.declared.messages.ViewChange.{ViewChange}
@@ -64,3 +65,12 @@ always (Ok t) x = x
 pub map_ok : {T E X Y : Type 0} (told : Result T E) → (X → Y) → OnOk told X → OnOk told Y
 map_ok (Err e) f x = tt
 map_ok (Ok t) f x = f x
+
+-- the first, and then a value that can't fail
+pub and_if : {T U E : Type 0} (P : U → Type 0) (told : Result T E) (u : U) (r : Result U E) → r ≡ result_and told (Ok u) → OnOk told (P u) → IfOk r P
+and_if P (Err e) u r is h = subst (λ x. IfOk x P) (sym is) tt
+and_if P (Ok t) u r is h = subst (λ x. IfOk x P) (sym is) h
+
+pub and_on : {T U E X : Type 0} (told : Result T E) (u : U) (r : Result U E) → r ≡ result_and told (Ok u) → OnOk told X → OnOk r X
+and_on {X = X} (Err e) u r is h = subst (λ x. OnOk x X) (sym is) tt
+and_on {X = X} (Ok t) u r is h = subst (λ x. OnOk x X) (sym is) h

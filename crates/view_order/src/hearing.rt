@@ -1,5 +1,5 @@
 //! What is heard of any kind: a ViewChange, a NewView, and what leaves the view as it is.
-ghost use Rattle.std.specs.Prelude.{◌≡◌, ◌++◌, ◌&&◌, false, nat_eq, nat_lt, IfOk, OnOk};
+ghost use Rattle.std.specs.Prelude.{◌≡◌, ◌++◌, ◌∷◌, [], ◌&&◌, false, nat_eq, nat_lt, IfOk, OnOk};
 ghost use Rattle.std.specs.List.{filter, list_any};
 ghost use Rattle.fab_base.specs.Limits.{IsWithinLimits};
 ghost use Rattle.fab_base.specs.declared.messages.Message.{Message};
@@ -78,11 +78,7 @@ fn hear_change(
     ensures same { IsSame order.old order.new }
 {
     match change_answer(order, changes.as_slice(), &change) {
-        Take::Taken => {
-            let view = change.view;
-            changes.push(change)?;
-            taken(alloc, order, changes.as_slice(), view)
-        }
+        Take::Taken => take(alloc, order, changes, change),
         how => {
             drop(change);
             Ok(Local {
@@ -91,6 +87,29 @@ fn hear_change(
             })
         }
     }
+}
+
+/// A ViewChange is kept, and what follows from it is done.
+fn take(
+    alloc: Global,
+    order: &mut Order,
+    changes: &mut Vec<ViewChange>,
+    change: ViewChange,
+) -> Result<Local, NoMemory>
+    requires live { order.old.shut ≡ false }
+    requires whole { IsLocalState order.old.roster order.old.me order.old.local }
+    ensures answer { IfOk result (λ told. told.answer
+        ≡ (change_taken order.old.roster order.old.me order.old.local (changes.old.items ++ change ∷ []) change).answer) }
+    ensures outs { IfOk result (λ told. told.outs
+        ≡ (change_taken order.old.roster order.old.me order.old.local (changes.old.items ++ change ∷ []) change).outs) }
+    ensures state { OnOk result (order.new
+        ≡ with_local order.old (change_taken order.old.roster order.old.me order.old.local (changes.old.items ++ change ∷ []) change).local) }
+    ensures kept { OnOk result (changes.new.items ≡ changes.old.items ++ change ∷ []) }
+    ensures same { IsSame order.old order.new }
+{
+    let view = change.view;
+    changes.push(change)?;
+    taken(alloc, order, changes.as_slice(), view)
 }
 
 /// What a ViewChange is answered: the first that holds of `Stray`, `OtherView`, `Twice` and `Taken`.

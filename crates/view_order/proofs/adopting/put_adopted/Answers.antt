@@ -23,7 +23,7 @@ returns-clause-outs c =
     let o = c.args.order.now in
     let x = c.args.new_view.now in
     let put : c.enter.new.outs ≡ Out.Clear ∷ entered_outs o.roster o.me o.local x =
-    c.in_ok-kept.ensures.outs ∙ ap (λ l. l ++ entered_outs o.roster o.me o.local x) (c.in_ok-push.ensures ∙ ap (λ l. l ++ Out.Clear ∷ []) c.requires.none) in
+    c.in_ok-kept.ensures.outs ∙ ap (λ l. l ++ entered_outs o.roster o.me o.local x) (c.in_ok-push.ensures.ok ∙ ap (λ l. l ++ Out.Clear ∷ []) c.requires.none) in
     let whole = adoption o c.enter.new.order x _ c.enter.new.outs c.in_ok-kept.ensures.state c.in_ok-kept.ensures.kept put in
     map_ok c.hear_again.result (λ h. h (Answer.Heard Take.Taken) ∙ ap (λ t. t.outs) whole) c.hear_again.ensures.outs
 
@@ -32,7 +32,7 @@ returns-clause-state c =
     let o = c.args.order.now in
     let x = c.args.new_view.now in
     let put : c.enter.new.outs ≡ Out.Clear ∷ entered_outs o.roster o.me o.local x =
-    c.in_ok-kept.ensures.outs ∙ ap (λ l. l ++ entered_outs o.roster o.me o.local x) (c.in_ok-push.ensures ∙ ap (λ l. l ++ Out.Clear ∷ []) c.requires.none) in
+    c.in_ok-kept.ensures.outs ∙ ap (λ l. l ++ entered_outs o.roster o.me o.local x) (c.in_ok-push.ensures.ok ∙ ap (λ l. l ++ Out.Clear ∷ []) c.requires.none) in
     let whole = adoption o c.enter.new.order x _ c.enter.new.outs c.in_ok-kept.ensures.state c.in_ok-kept.ensures.kept put in
     map_ok c.hear_again.result
     (λ h. adopted_state o c.enter.new.order c.hear_again.new.order x _ c.in_ok-kept.ensures.state (ap (λ t. t.local) whole) (h (Answer.Heard Take.Taken)))

@@ -1,5 +1,5 @@
 use Rattle.std.proofs.Common.{sym, ◌∙◌}
-use Rattle.view_order.proofs.Timing.{has_room}
+use Rattle.view_order.proofs.Waited.{has_room}
 use Rattle.view_order.proofs.timing.timeout.Goals as goal
 
 pub ask_next-requires-clause-room : goal.ask_next-requires-clause-room

@@ -12,7 +12,7 @@ invariant_of-self c =
     let view = c.args.view in
     let changes = c.self.inside.changes.items in
     let wants = subst (λ v. wanted v.local < view) (sym c.self.view_is) c.requires.above in
-    whole_sealed o c.asked.new.order c.seal.new.order (asked o.roster o.me o.local view (Answer.Asked view)).local changes changes changes c.asked.result
+    whole_sealed o c.asked-told.new.order c.seal.new.order (asked o.roster o.me o.local view (Answer.Asked view)).local changes changes changes c.asked-told.result
     c.self.invariant c.if-self.false
     (λ is. (let upto = view_upto o.local is.0.wants in (asked_state o.roster o.me o.local view (omega (arith, wants, upto)) is.0, is.1)))
-    c.asked.ensures.same c.asked.ensures.state (always c.asked.result refl) c.seal.ensures.same c.seal.ensures.shut
+    c.asked-told.ensures.same c.asked-told.ensures.state (always c.asked-told.result refl) c.seal.ensures.same c.seal.ensures.shut

@@ -13,7 +13,7 @@ invariant_of-self c =
     let changes = c.self.inside.changes.items in
     let member = is_member o.roster o.me c.self.invariant.limits c.self.invariant.member in
     let fine = subst (λ v. IsShaped v.roster m) (sym c.self.view_is) c.requires in
-    whole_sealed o c.attend.new.order c.seal.new.order (attend o.roster o.me o.local changes m).local changes (changes_after o.me o.local changes m)
-    c.attend.new.changes.items c.attend.result c.self.invariant c.if-self.false
+    whole_sealed o c.attend-told.new.order c.seal.new.order (attend o.roster o.me o.local changes m).local changes (changes_after o.me o.local changes m)
+    c.attend-told.new.changes.items c.attend-told.result c.self.invariant c.if-self.false
     (λ is. ((attend_state o.roster o.me o.local changes m member fine is.1 is.0).is, changes_kept_after o.roster o.me o.local changes m fine is.1))
-    c.attend.ensures.same c.attend.ensures.state c.attend.ensures.kept c.seal.ensures.same c.seal.ensures.shut
+    c.attend-told.ensures.same c.attend-told.ensures.state c.attend-told.ensures.kept c.seal.ensures.same c.seal.ensures.shut

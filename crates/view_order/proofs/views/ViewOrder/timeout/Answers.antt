@@ -12,6 +12,6 @@ invariant_of-self c =
     let known = c.args.known in
     let changes = c.self.inside.changes.items in
     let member = is_member o.roster o.me c.self.invariant.limits c.self.invariant.member in
-    whole_sealed o c.timeout.new.order c.seal.new.order (timeout o.roster o.me o.local own known).local changes changes changes c.timeout.result
+    whole_sealed o c.timeout-told.new.order c.seal.new.order (timeout o.roster o.me o.local own known).local changes changes changes c.timeout-told.result
     c.self.invariant c.if-self.false (λ is. ((timeout_state o.roster o.me o.local own known member is.0).is, is.1))
-    c.timeout.ensures.same c.timeout.ensures.state (always c.timeout.result refl) c.seal.ensures.same c.seal.ensures.shut
+    c.timeout-told.ensures.same c.timeout-told.ensures.state (always c.timeout-told.result refl) c.seal.ensures.same c.seal.ensures.shut
