@@ -71,6 +71,6 @@ pub and_if : {T U E : Type 0} (P : U → Type 0) (told : Result T E) (u : U) (r 
 and_if P (Err e) u r is h = subst (λ x. IfOk x P) (sym is) tt
 and_if P (Ok t) u r is h = subst (λ x. IfOk x P) (sym is) h
 
-pub and_on : {T U E X : Type 0} (told : Result T E) (u : U) (r : Result U E) → r ≡ result_and told (Ok u) → OnOk told X → OnOk r X
-and_on {X = X} (Err e) u r is h = subst (λ x. OnOk x X) (sym is) tt
-and_on {X = X} (Ok t) u r is h = subst (λ x. OnOk x X) (sym is) h
+pub and_on : {T U E : Type 0} (X : Type 0) (told : Result T E) (u : U) (r : Result U E) → r ≡ result_and told (Ok u) → OnOk told X → OnOk r X
+and_on X (Err e) u r is h = subst (λ x. OnOk x X) (sym is) tt
+and_on X (Ok t) u r is h = subst (λ x. OnOk x X) (sym is) h

@@ -11,4 +11,4 @@ returns-clause-outs c = λ k e.
     (map_ok c.follow.result (λ h. h ∙ ap (λ l. l ++ put) c.new-outs.ensures) (c.follow.ensures.outs k e))
 
 pub returns-clause-state : goal.returns-clause-state
-returns-clause-state c = λ k e. and_on c.follow.result _ c.and.result c.and.ensures (c.follow.ensures.state k e)
+returns-clause-state c = λ k e. and_on _ c.follow.result _ c.and.result c.and.ensures (c.follow.ensures.state k e)

@@ -1,4 +1,4 @@
-use Rattle.std.proofs.Common.{sym, subst}
+use Rattle.std.proofs.Common.{sym, subst, ◌∙◌}
 use Rattle.fab_rules.specs.Shape.{IsShaped}
 use Rattle.fab_machine.specs.Attending.{attend, changes_after}
 use Rattle.fab_machine.proofs.Members.{is_member}
@@ -14,6 +14,6 @@ invariant_of-self c =
     let member = is_member o.roster o.me c.self.invariant.limits c.self.invariant.member in
     let fine = subst (λ v. IsShaped v.roster m) (sym c.self.view_is) c.requires in
     whole_sealed o c.attend-told.new.order c.seal.new.order (attend o.roster o.me o.local changes m).local changes (changes_after o.me o.local changes m)
-    c.attend-told.new.changes.items c.attend-told.result c.self.invariant c.if-self.false
+    c.attend-told.new.changes.items c.attend-told.result c.self.invariant (sym c.is_shut.ensures ∙ c.if-is_shut.false)
     (λ is. ((attend_state o.roster o.me o.local changes m member fine is.1 is.0).is, changes_kept_after o.roster o.me o.local changes m fine is.1))
     c.attend-told.ensures.same c.attend-told.ensures.state c.attend-told.ensures.kept c.seal.ensures.same c.seal.ensures.shut
