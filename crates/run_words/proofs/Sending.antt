@@ -329,7 +329,7 @@ said_shaped r me [] x h i = absurd i
 said_shaped r me (e ∷ past) x h (inl q) = (subst (May r me past) q h.0).shaped_speech
 said_shaped r me (e ∷ past) x h (inr i) = said_shaped r me past x h.1 i
 
-in_said : (me : ReplicaId) (x : Message) → is_own me (signer_of x) ≡ true → In (unsigned x) (statements_by me x)
+pub in_said : (me : ReplicaId) (x : Message) → is_own me (signer_of x) ≡ true → In (unsigned x) (statements_by me x)
 in_said me x h = subst (λ (b : Bool). In (unsigned x) (cond b (unsigned x ∷ []) [])) (sym h) (inl refl)
 
 pub waiting_said : (me : ReplicaId) (past : List diaries.Entry) (items : List Item) (item : Item) → In item items
@@ -383,7 +383,7 @@ next_sound m earlier past keyed st h =
 
 -- ---- an entry more
 
-sent_heard : (me : ReplicaId) (o : List Item) (past : List diaries.Entry) (x : Message) → In (Heard x) (diary_sent me o past)
+pub sent_heard : (me : ReplicaId) (o : List Item) (past : List diaries.Entry) (x : Message) → In (Heard x) (diary_sent me o past)
     → In (Heard x) past
 sent_heard me [] past x h = h
 sent_heard me (i ∷ rest) past x h = heard_before past (statements_by me i.message) x h
@@ -399,7 +399,7 @@ heard_more m s Entry.Marked now past h old x i = old x i
 heard_more m s Entry.TimedOut now past h old x i = old x i
 heard_more m s Entry.Executed now past h old x i = old x (heard_before_blocks past (drop (length s.rounds.blocks) now.rounds.blocks) x i)
 
-may_be : (m : Maker) (e : Entry) → IsHeardSound m e → MayCome m.roster (event_of e)
+pub may_be : (m : Maker) (e : Entry) → IsHeardSound m e → MayCome m.roster (event_of e)
 may_be m (Entry.Heard origin x) h = shaped_from_sound m.roster m.ring x h
 may_be m Entry.Proposed h = tt
 may_be m Entry.Nudged h = tt

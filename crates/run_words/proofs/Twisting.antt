@@ -161,3 +161,12 @@ copies_are_sent m w Entry.Nudged c h = absurd h
 copies_are_sent m w Entry.Executed c h = absurd h
 copies_are_sent m w Entry.Marked c h = absurd h
 copies_are_sent m w Entry.TimedOut c h = absurd h
+
+-- what a correct replica puts by an item bears its time and its message's bytes
+pub put_is : (m : Maker) (w : Walk) (item : Item) (q : Parcel) → m.fault ≡ None → In q (added m w (Entry.Sent item))
+    → (q.time ≡ w.clock) × (q.bytes ≡ spelling_of item.message)
+put_is m w item q plain i =
+    let of = added_bytes m w (Entry.Sent item) q i in (
+      added_times m w (Entry.Sent item) q i,
+      of.bytes_are ∙ ap (λ (f : Option Fault). spoiled f of.place of.copy.bytes) plain ∙ plain_copy m w item of.copy plain of.is_in,
+    )
