@@ -40,6 +40,8 @@ use Rattle.heed_laws.proofs.Alike.{alike_saying, proposed_alike, marked_alike}
 -- of a slot
 abbrev pub IsFine : Roster → ReplicaId → List Entry → Out → Type 0
 IsFine r me full (Out.Put item) = IsOutgoing r me item × IsAskedFor full item.message
+IsFine r me full Out.Clear = ⊥
+IsFine r me full (Out.Entered base) = ⊥
 IsFine r me full (Out.Certified k) = (k.cluster ≡ me.cluster) × (1 ≤ round_of k)
 
 pub asked_more : (a b : List Entry) (m : Message) → ((x : Message) → In (Heard x) a → In (Heard x) b) → IsAskedFor a m → IsAskedFor b m
@@ -48,6 +50,8 @@ asked_more a b m f h = h
 
 pub fine_more : (r : Roster) (me : ReplicaId) (a b : List Entry) (o : Out) → ((x : Message) → In (Heard x) a → In (Heard x) b) → IsFine r me a o → IsFine r me b o
 fine_more r me a b (Out.Put item) f h = (h.0, asked_more a b item.message f h.1)
+fine_more r me a b Out.Clear f h = absurd h
+fine_more r me a b (Out.Entered base) f h = absurd h
 fine_more r me a b (Out.Certified k) f h = h
 
 pub record IsHeededOf (r : Roster) (me : ReplicaId) (l : Local) (outs : List Out) (formed : List CommitCert) (full : List Entry) (rest : List Message) : Type 0 where

@@ -133,6 +133,8 @@ after_move_heeded r me l low formed full up done all = record {
 formed_by-append : (formed : List CommitCert) (a b : List Out) → formed_by formed (a ++ b) ≡ formed_by (formed_by formed a) b
 formed_by-append formed [] b = refl
 formed_by-append formed (Out.Put item ∷ rest) b = formed_by-append formed rest b
+formed_by-append formed (Out.Clear ∷ rest) b = formed_by-append formed rest b
+formed_by-append formed (Out.Entered base ∷ rest) b = formed_by-append formed rest b
 formed_by-append formed (Out.Certified k ∷ rest) b = formed_by-append (k ∷ formed) rest b
 
 -- what holds in between
