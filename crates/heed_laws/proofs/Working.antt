@@ -1,6 +1,7 @@
 -- Each move puts a statement or raises the low mark.
-use Rattle.std.proofs.Common.{◌≡◌, ℕ, zero, suc, ◌≤◌, ◌+◌, ◌%◌, Bool, true, false, not, cond, ◌||◌, nat_eq, nat_lt, List, [], ◌∷◌, take, drop, length, Option, Some, None, refl, ap, ◌∙◌, arith}
+use Rattle.std.proofs.Common.{◌≡◌, ℕ, zero, suc, ◌≤◌, ◌+◌, ◌%◌, Bool, true, false, not, cond, ◌||◌, nat_eq, nat_lt, List, [], ◌∷◌, ◌++◌, take, drop, length, length-append, Option, Some, None, inl, inr, refl, sym, ap, subst, ◌∙◌, arith}
 use Rattle.std.specs.Prelude.{Result, Ok, Err}
+use Rattle.std.proofs.lemmas.Grind.{flat_map-append}
 use Rattle.fab_base.specs.Limits.{Roster}
 use Rattle.fab_base.specs.Roster.{size_of}
 use Rattle.fab_base.specs.declared.limits.TheConstants.{GREATEST_NUMBER}
@@ -16,23 +17,23 @@ use Rattle.fab_rules.specs.Digests.{batch_digest}
 use Rattle.fab_rules.specs.declared.blocks.Block.{Block}
 use Rattle.fab_rules.specs.Diary.{Entry, Heard}
 use Rattle.fab_rules.specs.Ledger.{RunBlock}
-use Rattle.fab_rules.specs.Shape.{is_primary}
-use Rattle.fab_rules.specs.Lists.{greatest}
+use Rattle.fab_rules.specs.Shape.{is_primary, IsShaped}
+use Rattle.fab_rules.specs.Lists.{In, greatest}
 use Rattle.fab_rules.specs.Statements.{signer_of, unsigned}
 use Rattle.fab_rules.specs.Growth.{after_saying}
-use Rattle.fab_rules.proofs.Saying.{after_saying-both}
+use Rattle.fab_rules.proofs.Saying.{still_heard, after_saying-both}
 use Rattle.pbft_slots.specs.Window.{Window, high, after_pre_prepare, after_prepare, after_commit, pre_prepare_answer, prepare_answer, commit_answer}
 use Rattle.checkpoint_core.specs.Checkpoints.{vote_answer, after_vote}
-use Rattle.fab_machine.specs.State.{Due, Local, Replica}
+use Rattle.fab_machine.specs.State.{Due, Local, Replica, Stepped}
 use Rattle.fab_machine.specs.Items.{is_own, statements_by, statements_in, proposal_of, cluster_of}
 use Rattle.fab_machine.specs.Voting.{Told, unmoved, newly_prepared, keep_prepared, after_count, vote_refusal, proposal_told, prepare_told, commit_told, proposal_by, prepare_by, commit_by}
 use Rattle.fab_machine.specs.Hearing.{hear}
 use Rattle.fab_machine.specs.Proposing.{eligible, proposed, is_due, propose_in, propose}
 use Rattle.fab_machine.specs.Checkpointing.{after_move, move_to, checkpoint, checkpoint_by, voted, moved, stable_rounds, checkpoint_of}
 use Rattle.fab_machine.specs.Rounds.{knows_others, next_round, with_round}
-use Rattle.fab_machine.specs.Step.{Event, hear_step, emit_step, makes_entry, note_item, own_block, after_noting, execute_step}
+use Rattle.fab_machine.specs.Step.{Event, emit_step, makes_entry, note_item, own_block, after_noting, execute_step}
 use Rattle.fab_machine.specs.Joining.{after_out, after_outs, after_told}
-use Rattle.fab_machine.specs.Sharing.{with_certificate, shared, shares_owed}
+use Rattle.fab_machine.specs.Sharing.{shared, shares_owed}
 use Rattle.fab_machine.specs.Diaries.{diary_sent, diary_did, diary_after}
 use Rattle.fab_machine.specs.Relation.{AreRelated, full_of}
 use Rattle.fab_machine.specs.declared.outs.Out.{Out}
