@@ -1,8 +1,6 @@
 -- After a proposal or a vote was counted: what newly holds of its slot has its consequences.
-use Rattle.std.proofs.Common.{◌≡◌, ℕ, ◌≤◌, take, true, List, [], ◌∷◌, ◌++◌, length, Option, Some, None, ◌⊎◌, inl, inr, refl, sym, ap, subst, ◌∙◌, arith}
-use Rattle.std.specs.Option.{option_and_then}
+use Rattle.std.proofs.Common.{◌≡◌, ℕ, ◌≤◌, true, List, [], ◌∷◌, ◌++◌, Option, Some, None, ◌⊎◌, inl, inr, refl, sym, ap, subst, ◌∙◌, arith}
 use Rattle.fab_base.specs.Limits.{Roster}
-use Rattle.fab_base.specs.Quorums.{quorum_size}
 use Rattle.fab_base.specs.declared.limits.TheConstants.{GREATEST_NUMBER}
 use Rattle.fab_base.specs.declared.ids.ReplicaId.{ReplicaId}
 use Rattle.fab_base.specs.declared.ids.Hash32.{Hash32}
@@ -12,22 +10,18 @@ use Rattle.fab_base.specs.declared.messages.Message.{Message}
 use Rattle.fab_rules.specs.Lists.{In}
 use Rattle.fab_rules.specs.Diary.{Entry, Heard, Said}
 use Rattle.fab_rules.specs.Statements.{signer_of, unsigned}
-use Rattle.fab_rules.proofs.Lists.{of_flat_map}
 use Rattle.fab_rules.proofs.Saying.{heard_before}
-use Rattle.vote_certs.specs.Counting.{value_of}
-use Rattle.pbft_slots.specs.declared.slot.Slot.{Slot}
 use Rattle.pbft_slots.specs.declared.slot.Proposal.{Proposal}
-use Rattle.pbft_slots.specs.Ballots.{Counted, senders_for, kept_of, kept_from}
-use Rattle.pbft_slots.specs.Window.{Window, slot_at, votes_in, proposal_at, prepared_at, committed_at}
+use Rattle.pbft_slots.specs.Window.{Window, proposal_at, prepared_at, committed_at}
 use Rattle.fab_machine.specs.State.{Local}
 use Rattle.fab_machine.specs.Items.{vote_of, is_own, to_cluster}
 use Rattle.fab_machine.specs.Voting.{commit_certificate, newly, keep_prepared, commit_outs, certified_outs, newly_prepared, newly_committed, after_count, outs_after}
-use Rattle.fab_machine.specs.Rounds.{slot_of, round_of}
+use Rattle.fab_machine.specs.Rounds.{round_of}
 use Rattle.fab_machine.specs.LocalState.{IsLocalState}
 use Rattle.fab_machine.specs.Relation.{after_puts}
 use Rattle.fab_machine.specs.declared.outs.Out.{Out}
 use Rattle.fab_machine.proofs.Members.{IsMember}
-use Rattle.fab_machine.proofs.Certificates.{certificate_formed, certificate_may}
+use Rattle.fab_machine.proofs.Certificates.{certificate_formed}
 use Rattle.fab_machine.proofs.Made.{is_newly}
 use Rattle.fab_machine.proofs.Telling.{own, says_own}
 use Rattle.heed_laws.specs.Heeding.{IsHeeded, IsFormed, AreProposed, AllMarked, IsCalm, AreHeeded, formed_by, IsOutgoing, IsAskedFor}

@@ -14,16 +14,14 @@ use Rattle.fab_base.proofs.Tests.{is_below}
 use Rattle.fab_rules.specs.Lists.{In, greatest}
 use Rattle.fab_rules.specs.Diary.{Entry, Heard, Said}
 use Rattle.fab_rules.specs.Rules.{KeepsRules}
-use Rattle.fab_rules.specs.Growth.{after_saying}
 use Rattle.fab_rules.proofs.Lists.{in_append_cases, in_filter}
 use Rattle.vote_certs.specs.Counting.{value_of}
 use Rattle.pbft_slots.specs.declared.slot.Slot.{Slot}
-use Rattle.pbft_slots.specs.Slots.{empty_slot, agreed_digest}
+use Rattle.pbft_slots.specs.Slots.{agreed_digest}
 use Rattle.pbft_slots.specs.Window.{Window, high, slot_at, moved_to}
 use Rattle.pbft_slots.proofs.Places.{slot_is_open, slot_kept}
 use Rattle.checkpoint_core.specs.Checkpoints.{Checkpoints, pruned}
 use Rattle.fab_machine.specs.State.{Due, Local}
-use Rattle.fab_machine.specs.Items.{statements_by}
 use Rattle.fab_machine.specs.Voting.{Told}
 use Rattle.fab_machine.specs.Hearing.{hear}
 use Rattle.fab_machine.specs.Checkpointing.{checkpoint_of, voted, stable_rounds, after_move, heard_again, move_to, checkpoint_by, checkpoint}
