@@ -26,7 +26,7 @@ use Rattle.fab_rules.specs.Format.{is_u8, is_u32, is_u64, id_fits, digest_fits, 
 use Rattle.fab_rules.specs.Rules.{May, KeepsRules}
 use Rattle.fab_rules.specs.Shape.{is_view, is_primary, is_new_view, IsShaped}
 use Rattle.fab_rules.specs.Spelling.{content_of}
-use Rattle.fab_rules.specs.Statements.{signer_of, unsigned, parts_of_certificate, parts_of_change, parts_of}
+use Rattle.fab_rules.specs.Statements.{signer_of, unsigned, parts_of_certificate, parts_of_change, parts_of, statements_of}
 use Rattle.fab_rules.proofs.Fitting.{fields_are}
 use Rattle.fab_rules.proofs.Lengths.{proposal_is_spelled, prepare_is_spelled, commit_is_spelled, checkpoint_is_spelled, view_change_is_spelled, new_view_is_spelled, drvc_is_spelled, rvc_is_spelled, note_is_spelled}
 use Rattle.fab_rules.proofs.Lists.{in_append_cases, of_map, of_flat_map, in_flat_map, of_filter}
@@ -275,6 +275,22 @@ parts_signed m sig x full k quoting sound p who i q =
     quoted : In p (inside_of (unsigned x)) → (unsigned x ≡ p) ⊎ StatementHeard full p → IsSignedBy m.ring who p
     quoted inside (inl e) = absurd (omega (arith, inside_depth (unsigned x) p inside, ap depth e))
     quoted inside (inr h) = heard_part m full p who sound h q
+
+-- each statement in a signed one is that one, or was heard
+pub signed_statements : (sig : List ℕ) (x : Message) (full : List diaries.Entry) → IsQuoting full (unsigned x) → (p : Message)
+    → In p (statements_of (with_sig sig x)) → (with_sig sig x ≡ p) ⊎ StatementHeard full p
+signed_statements sig x full quoting p h =
+    let part = of_filter (λ y. is_some (signer_of y)) p (parts_of (with_sig sig x)) h in
+    elim (subst (In p) (parts_are (with_sig sig x)) part.0) as (λ _. (with_sig sig x ≡ p) ⊎ StatementHeard full p) [
+      | inl e ↦ inl e
+      | inr j ↦ (let inside = subst (In p) (inside_signed sig x) j in
+          let there = subst (In p) (sym (parts_are (unsigned x))) (inr inside) in
+          quoted inside (quoting p (part_is_statement (unsigned x) p there part.1)))
+    ]
+  where
+    quoted : In p (inside_of (unsigned x)) → (unsigned x ≡ p) ⊎ StatementHeard full p → (with_sig sig x ≡ p) ⊎ StatementHeard full p
+    quoted inside (inl e) = absurd (omega (arith, inside_depth (unsigned x) p inside, ap depth e))
+    quoted inside (inr h) = inr h
 
 signer_signed : (me : ReplicaId) (sig : List ℕ) (x : Message) → is_own me (signer_of x) ≡ true
     → (signer_of (with_sig sig x) ≡ Some (Who.Replica me)) × (signature_of (with_sig sig x) ≡ sig)

@@ -11,7 +11,7 @@ use Rattle.fault_script.specs.declared.twists.Loss.{Loss}
 use Rattle.fault_script.specs.declared.twists.FaultLine.{FaultLine}
 use Rattle.fault_script.specs.declared.twists.TimeoutLine.{TimeoutLine}
 
--- four words that stand for fields of a script which aren't there yet. Nothing looks into them
+-- four words that stand for fields of a script which aren't there yet. Nothing looks into them but proofs/Untroubled
 unfoldable pub faults_of : Script → List FaultLine
 faults_of script = []
 

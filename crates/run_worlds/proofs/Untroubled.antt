@@ -1,0 +1,21 @@
+-- A script says nothing yet of faults, losses and timeouts: what the words that stand for these fields come to. Each goes where the field comes.
+use Rattle.std.specs.Prelude.{◌≡◌, true, ℕ, List, [], refl, None}
+use Rattle.fab_base.specs.declared.ids.ReplicaId.{ReplicaId}
+use Rattle.fault_script.specs.declared.scripts.Script.{Script}
+use Rattle.run_worlds.specs.Troubles.{faults_of, lines_of, fault_of, are_timeouts}
+
+pub no_faults : (script : Script) → faults_of script ≡ []
+unfolding faults_of
+no_faults script = refl
+
+pub none_faulty : (script : Script) (i : ReplicaId) → fault_of script i ≡ None
+unfolding faults_of
+none_faulty script i = refl
+
+pub no_lines : (script : Script) → lines_of script ≡ []
+unfolding lines_of
+no_lines script = refl
+
+pub fine_timeouts : (script : Script) → are_timeouts script ≡ true
+unfolding lines_of
+fine_timeouts script = refl
