@@ -24,7 +24,7 @@ use Rattle.fab_machine.proofs.Members.{IsMember}
 use Rattle.fab_machine.proofs.Certificates.{certificate_formed}
 use Rattle.fab_machine.proofs.Made.{is_newly}
 use Rattle.fab_machine.proofs.Telling.{own, says_own}
-use Rattle.heed_laws.specs.Heeding.{IsHeeded, IsFormed, AreProposed, AllMarked, IsCalm, AreHeeded, formed_by, IsOutgoing, IsAskedFor}
+use Rattle.heed_laws.specs.Heeding.{IsPlainMessage, IsHeeded, IsFormed, AreProposed, AllMarked, IsCalm, AreHeeded, formed_by, IsOutgoing, IsAskedFor}
 use Rattle.heed_laws.proofs.Gaining.{IsGained}
 use Rattle.heed_laws.proofs.Alike.{alike_saying, proposed_alike, marked_alike}
 
@@ -63,10 +63,10 @@ fine_first r me full first rest f g o (inr h) = g o h
 
 -- a statement of its own is put to the cluster, and then the rest follows
 pub heeded_put : (r : Roster) (me : ReplicaId) (l : Local) (m : Message) (outs : List Out) (formed : List CommitCert) (full : List Entry) (rest : List Message)
-    → is_own me (signer_of m) ≡ true → IsAskedFor full m → IsHeededOf r me l outs formed (Said (unsigned m) ∷ full) rest → IsHeededOf r me l (to_cluster r me m ∷ outs) formed full rest
-heeded_put r me l m outs formed full rest mine asked t = record {
+    → is_own me (signer_of m) ≡ true → IsPlainMessage m → IsAskedFor full m → IsHeededOf r me l outs formed (Said (unsigned m) ∷ full) rest → IsHeededOf r me l (to_cluster r me m ∷ outs) formed full rest
+heeded_put r me l m outs formed full rest mine plain asked t = record {
   are = subst (λ f. AreHeeded r me l (formed_by formed outs) (after_puts me f outs) rest) (sym (says_own me m full mine)) t.are;
-  fine = fine_first r me full (to_cluster r me m) outs (record { own = mine; to = inl refl }, asked)
+  fine = fine_first r me full (to_cluster r me m) outs (record { own = mine; plain = plain; to = inl refl }, asked)
       (λ o h. fine_more r me (Said (unsigned m) ∷ full) full o (λ x k. heard_before full (unsigned m ∷ []) x k) (t.fine o h));
 }
 
@@ -197,7 +197,7 @@ counted r me l now slot formed full rest member low_enough from is ready = first
         (λ s d h. inr (ready.commits s d h))
         (λ d h. (let same : c ≡ d = (let both : Some c ≡ Some d = sym e ∙ h in cc) in
         inl (ap (λ view. Said (Message.Commit (vote_of me view slot c))) ready.calm.view_is ∙ ap (λ x. Said (Message.Commit (vote_of me 0 slot x))) same))) in
-        heeded_put r me (keep_prepared at slot (Some c)) m (certified_outs me at slot (newly_committed l now slot)) formed full rest (own me) tt
+        heeded_put r me (keep_prepared at slot (Some c)) m (certified_outs me at slot (newly_committed l now slot)) formed full rest (own me) tt tt
         (second (Some c) more (λ x h. ready.heeded x (alike.heard x h)) (λ s p h. inr (ready.prepares s p h)) commits
         (proposed_alike me l.slots.low l.next l.proposed full more alike.said ready.proposed) (marked_alike r me l.executed l.due full more alike.said ready.marked)
         (newly_committed l now slot) refl)

@@ -173,7 +173,7 @@ voted_heeded r me l d rest formed full first all =
     let more = Said m ∷ full in
     let alike = alike_saying full (m ∷ []) in
     let now : Local = record l { due = rest } in
-    heeded_put r me now m [] formed full [] (own me) tt (told_none r me now formed more [] (record {
+    heeded_put r me now m [] formed full [] (own me) tt tt (told_none r me now formed more [] (record {
       calm = record { view_is = all.calm.view_is; calm = all.calm.calm; low_upto = all.calm.low_upto };
       heeded = λ x h. all.heeded x (alike.heard x h);
       voted = voted_alike me l.slots formed full more alike.said all.voted;

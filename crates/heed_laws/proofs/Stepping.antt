@@ -336,7 +336,7 @@ executed_heedful r me s diary blocks ran member found rel after h =
         ]);
         outgoing = λ x q. (elim (in_append_cases x s.outbox (item ∷ []) q) [
           | inl old ↦ h.are.outgoing x old
-          | inr (inl same) ↦ subst (IsOutgoing r me) same (record { own = own me; to = inr (tt, refl) })
+          | inr (inl same) ↦ subst (IsOutgoing r me) same (record { own = own me; plain = tt; to = inr (tt, refl) })
           | inr (inr none) ↦ absurd none
         ]);
         noted = omega (
