@@ -2,7 +2,7 @@
 use Rattle.std.specs.Prelude.{◌≡◌, true, ℕ, List, [], refl, None}
 use Rattle.fab_base.specs.declared.ids.ReplicaId.{ReplicaId}
 use Rattle.fault_script.specs.declared.scripts.Script.{Script}
-use Rattle.run_worlds.specs.Troubles.{faults_of, lines_of, fault_of, are_timeouts}
+use Rattle.run_worlds.specs.Troubles.{faults_of, losses_of, lines_of, patience_of, fault_of, are_timeouts}
 
 pub no_faults : (script : Script) → faults_of script ≡ []
 unfolding faults_of
@@ -19,3 +19,11 @@ no_lines script = refl
 pub fine_timeouts : (script : Script) → are_timeouts script ≡ true
 unfolding lines_of
 fine_timeouts script = refl
+
+pub no_losses : (script : Script) → losses_of script ≡ []
+unfolding losses_of
+no_losses script = refl
+
+pub no_patience : (script : Script) → patience_of script ≡ 0
+unfolding patience_of
+no_patience script = refl
