@@ -35,7 +35,8 @@ use Rattle.run_words.specs.Lawful.{AreEach}
 use Rattle.run_words.specs.declared.logs.Entry.{Entry}
 use Rattle.run_words.specs.declared.logs.Transcript.{Transcript}
 use Rattle.run_words.proofs.Counts.{IsIn}
-use Rattle.run_words.proofs.Keeping.{AreStill, IsWell, after_well, heard_of, sent_of}
+use Rattle.run_words.proofs.Keeping.{AreStill, IsWell, after_well}
+use Rattle.run_words.proofs.Quieting.{heard_of, sent_of}
 use Rattle.run_words.proofs.Replays.{fresh_is}
 use Rattle.script_keys.specs.Keys.{leaves_of, replicas_of, height_of}
 use Rattle.script_keys.proofs.Wishes.{asked_in}

@@ -1,14 +1,11 @@
 -- In a run of one cluster in which nobody times out nobody hears of views, of pleas, or of another cluster. By time: what a replica put before
 -- it heard of such things is of the kinds that a cluster needs in view 0.
 use Rattle.std.proofs.Common.{◌≡◌, ℕ, zero, suc, ◌<◌, ◌≤◌, Bool, true, false, cond, List, [], ◌∷◌, ◌++◌, map, length, inl, inr, refl, sym, ap, subst, ◌∙◌, append_assoc, append-nil, arith}
-use Rattle.std.specs.Prelude.{IsTrue, None}
+use Rattle.std.specs.Prelude.{IsTrue}
 use Rattle.fab_base.specs.Limits.{IsWithinLimits}
 use Rattle.fab_base.specs.Roster.{is_replica}
-use Rattle.fab_base.specs.declared.ids.ReplicaId.{ReplicaId}
 use Rattle.fab_base.specs.declared.messages.Message.{Message}
 use Rattle.fab_base.specs.declared.answers.Item.{Item}
-use Rattle.fab_rules.specs.Diary as diaries
-use Rattle.fab_rules.specs.Diary.{Heard}
 use Rattle.fab_rules.specs.Lists.{In, first_of}
 use Rattle.fab_rules.specs.Spelling.{spelling_of}
 use Rattle.fab_rules.specs.Statements.{signer_of}
@@ -16,8 +13,7 @@ use Rattle.fab_rules.proofs.Lengths.{request_is_spelled}
 use Rattle.fab_rules.proofs.Lists.{in_append_cases, in_append_left}
 use Rattle.fab_machine.specs.State.{Replica}
 use Rattle.fab_machine.specs.Items.{is_own, with_sig, draft_of}
-use Rattle.fab_machine.specs.Step.{Event, makes_entry, emit_step}
-use Rattle.fab_machine.specs.Relation.{AreRelated}
+use Rattle.fab_machine.specs.Step.{makes_entry, emit_step}
 use Rattle.fab_machine.proofs.Members.{is_member}
 use Rattle.bft_verify.specs.Sound.{IsSound}
 use Rattle.heed_laws.specs.Heeding.{IsPlainMessage, IsPlain}
@@ -28,7 +24,7 @@ use Rattle.run_words.specs.declared.logs.Parcel.{Parcel}
 use Rattle.run_words.specs.declared.logs.Trace.{Trace}
 use Rattle.run_words.specs.declared.logs.Transcript.{Transcript}
 use Rattle.run_words.specs.Journal.{Maker, event_of, state, diary, walk, clock, added, parcels_of, signed_of, moves, item_by, next_item, IsNext, IsMadeFrom, IsMade, AreSound}
-use Rattle.run_words.specs.Lawful.{AreEach, IsKeyed, Kept, IsDelivered}
+use Rattle.run_words.specs.Lawful.{AreEach, Kept, IsDelivered}
 use Rattle.run_words.proofs.Clocks.{above}
 use Rattle.run_words.proofs.Walks.{parcels_more}
 use Rattle.run_words.proofs.Replays.{emits}
@@ -38,10 +34,11 @@ use Rattle.run_words.proofs.Twisting.{added_bytes, copies_are_sent, put_is}
 use Rattle.script_keys.specs.Requests.{request_of}
 use Rattle.script_keys.proofs.Sounds.{keyed}
 use Rattle.script_keys.proofs.Wishes.{asked_in, request_has_fields}
-use Rattle.run_worlds.specs.Scripts.{roster_of, maker_of, makers_of, script_rules}
-use Rattle.run_worlds.specs.Endings.{IsOfLogs}
+use Rattle.run_worlds.specs.Scripts.{roster_of, maker_of, makers_of, line_of, script_rules}
+use Rattle.run_worlds.specs.Endings.{IsOfLogs, IsRunOf}
+use Rattle.run_worlds.proofs.RunLogs.{logs_of}
 use Rattle.run_worlds.proofs.ScriptLimits.{within_limits}
-use Rattle.run_worlds.proofs.Untroubled.{none_faulty}
+use Rattle.run_worlds.proofs.Untroubled.{none_faulty, no_lines, no_patience}
 use Rattle.audit_laws.proofs.Members.{takes_part}
 use Rattle.audit_laws.proofs.Sanity.{is_of_script}
 use Rattle.audit_laws.proofs.Journals.{was_heard}
@@ -51,7 +48,7 @@ use Rattle.run_laws.proofs.Quotes.{IsBefore, before_still}
 use Rattle.run_laws.proofs.Copies.{from_client, from_replica, posted_is, same_message}
 use Rattle.run_laws.proofs.Unforged.{each_at}
 use Rattle.script_keys.specs.Keys.{replicas_of}
-use Rattle.plain_laws.proofs.Untimed.{IsUntimed}
+use Rattle.plain_laws.proofs.Untimed.{IsUntimed, none_timed}
 use Rattle.plain_laws.proofs.Members.{journal_related, journal_heedful}
 
 -- ---- the front of a journal
@@ -250,3 +247,12 @@ module _ (t : Transcript) (run : IsOfLogs t) (delivered : AreEach (IsDelivered (
   pub all_plain : (trace : Trace) → In trace t.traces → ArePlainEntries trace.journal
   all_plain trace i =
       front_plain (clock (maker trace) trace.journal) (plain_before (clock (maker trace) trace.journal)) trace i trace.journal [] (append-nil trace.journal) (omega arith)
+
+-- ---- a lawful run of a script
+
+pub run_untimed : (t : Transcript) → IsRunOf t.script t → AreEach IsUntimed (makers_of t.script) t.traces
+run_untimed t run =
+    none_timed (script_rules t.script) t run.lawful (ap (λ lines. map (λ line. line_of t.script line) lines) (no_lines t.script)) (no_patience t.script)
+
+pub run_plain : (t : Transcript) → IsRunOf t.script t → length t.script.sizes ≡ 1 → (trace : Trace) → In trace t.traces → ArePlainEntries trace.journal
+run_plain t run one trace i = all_plain t (logs_of t run) run.lawful.delivered (run_untimed t run) one trace i
