@@ -1,5 +1,5 @@
 -- The one run of a script whose keys and turns are enough ends done.
-use Rattle.std.proofs.Common.{◌≡◌, ℕ, ◌+◌, ◌*◌, ◌<◌, ◌≤◌, Bool, true, false, cond, not, nat_le, List, [], ◌∷◌, length, sum, Option, Some, None, ◌⊎◌, inl, inr, refl, ap, subst, ◌∙◌, arith}
+use Rattle.std.proofs.Common.{◌≡◌, ℕ, ◌+◌, ◌*◌, ◌<◌, ◌≤◌, Bool, true, false, cond, not, nat_le, List, [], ◌∷◌, length, sum, Option, Some, None, ◌⊎◌, inl, inr, refl, ap, subst, ◌∙◌, arith, sym, append-nil}
 use Rattle.std.specs.Prelude.{slice_index}
 use Rattle.std.specs.List.{find}
 use Rattle.std.proofs.Math.Nat.{mul_assoc, mul-le-mul_left, mul-le-mul_right, one-mul, mul-one}
@@ -11,7 +11,9 @@ use Rattle.fault_script.specs.declared.scripts.Wish.{Wish}
 use Rattle.fault_script.specs.Scripts.{keeps_limits}
 use Rattle.world_laws.specs.World.{NoClash}
 use Rattle.run_words.specs.Lawful.{entries_of}
-use Rattle.run_words.specs.Runs.{IsSchedule}
+use Rattle.run_words.specs.Runs.{HasEnded, IsSchedule, Phase, after, transcript}
+use Rattle.run_words.proofs.Ending.{told_with}
+use Rattle.run_words.proofs.Moments.{noted_by}
 use Rattle.run_words.specs.declared.ends.End.{End}
 use Rattle.run_words.specs.declared.ends.Evidence.{Evidence}
 use Rattle.run_words.specs.declared.logs.Transcript.{Transcript}
@@ -126,7 +128,15 @@ by_end script n spent (End.Spent count) few limits fits schedule h =
       | inr cause ↦ inr (no_cause script limits fits n one h.0 (End.Spent count) cause)
     ]
 
+-- the transcript of a run that has ended is what it told so far
+told_ended : (script : Script) (n : ℕ) (spent : Bool) → HasEnded (after (script_rules script) n) spent
+    → transcript (script_rules script) (after (script_rules script) n) ≡ at_step script n
+told_ended script n spent e =
+    let run = after (script_rules script) n in
+    ap (told_with (script_rules script) run) (sym (ap (λ (p : Phase). noted_by run p) e ∙ append-nil run.moments))
+
 pub within_budget : BudgetLaw
 within_budget script t spent end few limits fits schedule h =
+    let is : t ≡ at_step script schedule.0 = schedule.2 ∙ told_ended script schedule.0 spent schedule.1 in
     by_end script schedule.0 spent end few limits fits
-    (subst (λ x. IsSchedule (script_rules script) x spent) schedule.2 schedule) (subst (λ x. IsEnd x end) schedule.2 h)
+    (subst (λ x. IsSchedule (script_rules script) x spent) is schedule) (subst (λ x. IsEnd x end) is h)

@@ -1,5 +1,5 @@
 -- The one run of a script, step by step: each prefix is a lawful run, and what its replicas heard they have heard ever after.
-use Rattle.std.proofs.Common.{◌≡◌, ℕ, zero, suc, ◌+◌, ◌<◌, Bool, true, false, cond, ◌||◌, nat_le, List, [], ◌∷◌, ◌++◌, map, length, ◌⊎◌, inl, inr, refl, sym, ap, subst, ◌∙◌, Result, Ok, Err, arith, get_or, ◌%◌}
+use Rattle.std.proofs.Common.{Option, ◌≡◌, ℕ, zero, suc, ◌+◌, ◌<◌, Bool, true, false, cond, ◌||◌, nat_le, List, [], ◌∷◌, ◌++◌, map, length, ◌⊎◌, inl, inr, refl, sym, ap, subst, ◌∙◌, Result, Ok, Err, arith, get_or, ◌%◌}
 use Rattle.std.specs.Prelude.{slice_index, replicate}
 use Rattle.fab_base.specs.Limits.{Roster}
 use Rattle.fab_base.specs.Roster.{is_replica, is_cluster, size_of}
@@ -33,7 +33,9 @@ use Rattle.run_words.specs.declared.logs.Transcript.{Transcript}
 use Rattle.run_words.proofs.Counts.{IsIn, journal_other}
 use Rattle.run_words.proofs.Keeping.{IsTrueLog, after_well}
 use Rattle.run_words.proofs.Ending.{told_by, lawful_after}
-use Rattle.run_worlds.proofs.Untroubled.{fine_timeouts}
+use Rattle.run_worlds.proofs.Untroubled.{none_faulty, fine_timeouts}
+use Rattle.fault_script.specs.declared.twists.Fault.{Fault}
+use Rattle.std.specs.Option.{is_some}
 use Rattle.run_words.proofs.Keys.{of_more, same_is, same_self}
 use Rattle.run_words.proofs.Replays.{same_diary, state_more}
 use Rattle.script_keys.specs.Keys.{replicas_of}
@@ -279,8 +281,9 @@ module _ (script : Script) (limits : keeps_limits script ≡ true) (one : length
   logs : (n : ℕ) → IsTrueLog maker (journal_at n)
   logs n = (after_well (script_rules script) n (sane script limits (fine_timeouts script))).fair.logs maker (made_of script (replicas_of script) (member 0) listed)
 
-  plain_at : (n : ℕ) → ArePlainEntries (journal_at n)
-  plain_at n =
+  -- all that the primary did is plain
+  pub plain_journal : (n : ℕ) → ArePlainEntries (journal_in (after (script_rules script) n) (maker_of script (member 0)))
+  plain_journal n =
       run_plain (at_step script n) (run_of script n limits) one (trace_in (run_at n) maker)
       (in_map (trace_in (run_at n)) maker (makers_of script) (in_map (maker_of script) (member 0) (replicas_of script) listed))
 
@@ -305,7 +308,7 @@ module _ (script : Script) (limits : keeps_limits script ≡ true) (one : length
       met batch (inl none) = inl none
       met batch (inr (k, l, h)) = inr (record {
         hearer = member k;
-        correct = record { takes_part = known k l; not_faulty = refl };
+        correct = record { takes_part = known k l; not_faulty = ap (λ (f : Option Fault). is_some f) (none_faulty script (member k)) };
         message = h.message;
         heard = heard_before ((world_of (at_step script n)).diary (member k)) (statements_in (member k) (state_at (at_step script n) k).outbox) h.message h.heard;
         inside = h.inside;
@@ -349,7 +352,7 @@ module _ (script : Script) (limits : keeps_limits script ≡ true) (one : length
           let s = now_at n in
           let past = diary_at n in
           let ev = event_of e in
-          let plain = plain_at (suc n) e (subst (In e) (sym more) (in_append_right e (journal_at n) (e ∷ []) (inl refl))) in
+          let plain = plain_journal (suc n) e (subst (In e) (sym more) (in_append_right e (journal_at n) (e ∷ []) (inl refl))) in
           let now = (step r (member 0) s ev).state in
           let grown = diary_after (member 0) s ev now past in
           let state_new : now_at (suc n) ≡ now = ap (state maker) more ∙ state_more maker (journal_at n) e in
