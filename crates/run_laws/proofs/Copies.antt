@@ -1,5 +1,5 @@
 -- What was heard was put: as a client's request or as a parcel.
-use Rattle.std.proofs.Common.{◌≡◌, ℕ, zero, suc, ◌+◌, ◌≤◌, Bool, true, false, cond, ◌&&◌, ◌⊎◌, nat_eq, List, [], ◌∷◌, map, Ok, Result, inl, inr, refl, sym, ap, subst, ◌∙◌, arith, sum_by}
+use Rattle.std.proofs.Common.{◌≡◌, ℕ, zero, suc, ◌≤◌, Bool, true, false, cond, ◌&&◌, ◌⊎◌, nat_eq, List, [], ◌∷◌, Ok, Result, inl, inr, refl, sym, ap, subst, ◌∙◌, arith, sum_by}
 use Rattle.std.proofs.lemmas.List.Sums.{sum_by-cons}
 use Rattle.std.proofs.lemmas.Slice.Eq.{bytes_eq-Decides}
 use Rattle.std.specs.Str.{bytes_eq}
@@ -10,7 +10,6 @@ use Rattle.fab_base.proofs.Tests.{and_left, and_right, and_both, same, is_same}
 use Rattle.fab_rules.specs.Format.{fits}
 use Rattle.fab_rules.specs.Lists.{In}
 use Rattle.fab_rules.specs.Spelling.{spelling_of}
-use Rattle.fab_rules.proofs.Lists.{in_append_cases, of_map}
 use Rattle.fault_script.specs.declared.scripts.Script.{Script}
 use Rattle.fault_script.specs.declared.scripts.Wish.{Wish}
 use Rattle.msg_read.specs.Reading.{reading_of}

@@ -2,37 +2,29 @@
 -- heard at an earlier time.
 use Rattle.std.proofs.Common.{◌≡◌, ℕ, ◌<◌, ◌≤◌, Bool, true, false, cond, ◌&&◌, ◌⊎◌, List, [], ◌∷◌, ◌++◌, drop, length, None, inl, inr, refl, sym, ap, subst, ◌∙◌, append_assoc, append-nil, arith}
 use Rattle.std.specs.Prelude.{IsTrue}
-use Rattle.std.specs.List.{count_by}
 use Rattle.std.specs.Option.{is_some}
 use Rattle.fab_base.specs.Limits.{IsWithinLimits}
 use Rattle.fab_base.specs.Roster.{is_replica}
 use Rattle.fab_base.specs.declared.answers.Item.{Item}
-use Rattle.fab_base.specs.declared.ids.ReplicaId.{ReplicaId}
 use Rattle.fab_base.specs.declared.messages.Message.{Message}
-use Rattle.fab_base.specs.declared.requests.Request.{Request}
 use Rattle.fab_rules.specs.Diary as diaries
 use Rattle.fab_rules.specs.Diary.{Heard, Said, StatementHeard}
 use Rattle.fab_base.specs.Fields.{op_fits}
 use Rattle.fab_rules.specs.Format.{is_u8, is_u32, is_u64, id_fits, digest_fits, signature_fits, batch_fits, proof_fits, certificates_fit, view_changes_fit, lines_fit, fields_fit, fits}
-use Rattle.fab_rules.specs.Growth.{after_saying}
 use Rattle.fab_rules.specs.Lists.{In, first_of}
 use Rattle.fab_rules.specs.Spelling.{spelling_of, content_of}
 use Rattle.fab_rules.specs.Statements.{signer_of, unsigned, parts_of, statements_of}
-use Rattle.fab_rules.proofs.Diaries as ruled
-use Rattle.fab_rules.proofs.Fitting.{fields_are}
-use Rattle.fab_rules.proofs.Lengths.{proposal_is_spelled, prepare_is_spelled, commit_is_spelled, checkpoint_is_spelled, note_is_spelled}
-use Rattle.fab_rules.proofs.Lists.{in_append_left, in_append_right, in_append_cases, of_map, in_flat_map, in_filter, of_filter}
-use Rattle.fab_rules.proofs.Saying.{same_heard, heard_before, now_said}
+use Rattle.fab_rules.proofs.Lists.{in_append_left, in_append_right, in_append_cases, of_filter}
+use Rattle.fab_rules.proofs.Saying.{same_heard, heard_before}
 use Rattle.fab_machine.specs.State.{Replica}
-use Rattle.fab_machine.specs.Items.{is_own, with_sig, sent_item, draft_of, statements_by, statements_in}
+use Rattle.fab_machine.specs.Items.{is_own, with_sig, sent_item, draft_of, statements_in}
 use Rattle.fab_machine.specs.Step.{step, makes_entry, emit_step}
-use Rattle.fab_machine.specs.Diaries.{MayCome, diary_sent, diary_after}
+use Rattle.fab_machine.specs.Diaries.{diary_after}
 use Rattle.fab_machine.specs.Relation.{full_of, AreFactsOf}
 use Rattle.fab_machine.proofs.Blocks.{heard_before_blocks}
 use Rattle.fab_machine.proofs.Members.{is_member}
 use Rattle.fab_machine.proofs.Steps.{starts_related}
 use Rattle.bft_verify.specs.Sound.{IsSound}
-use Rattle.run_words.specs.Keyed.{is_same}
 use Rattle.run_words.specs.declared.movers.Mover.{Mover}
 use Rattle.run_words.specs.declared.logs.Entry.{Entry}
 use Rattle.run_words.specs.declared.logs.Origin.{Origin}

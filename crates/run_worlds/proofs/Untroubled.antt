@@ -1,5 +1,5 @@
 -- A script says nothing yet of faults, losses and timeouts: what the words that stand for these fields come to. Each goes where the field comes.
-use Rattle.std.specs.Prelude.{◌≡◌, true, ℕ, List, [], refl, None}
+use Rattle.std.specs.Prelude.{◌≡◌, true, [], refl, None}
 use Rattle.fab_base.specs.declared.ids.ReplicaId.{ReplicaId}
 use Rattle.fault_script.specs.declared.scripts.Script.{Script}
 use Rattle.run_worlds.specs.Troubles.{faults_of, losses_of, lines_of, patience_of, fault_of, are_timeouts}
