@@ -1,5 +1,5 @@
 -- The one run of a script whose keys and turns are enough ends done.
-use Rattle.std.proofs.Common.{◌≡◌, ℕ, ◌+◌, ◌*◌, ◌<◌, ◌≤◌, Bool, true, false, cond, not, nat_le, List, [], ◌∷◌, length, sum, Option, Some, None, ◌⊎◌, inl, inr, refl, ap, subst, ◌∙◌, arith, sym, append-nil}
+use Rattle.std.proofs.Common.{◌≡◌, ℕ, ◌+◌, ◌*◌, ◌≤◌, Bool, true, false, cond, not, nat_le, List, [], ◌∷◌, length, sum, Option, Some, None, ◌⊎◌, inl, inr, refl, ap, subst, ◌∙◌, arith, sym, append-nil}
 use Rattle.std.specs.Prelude.{slice_index}
 use Rattle.std.specs.List.{find}
 use Rattle.std.proofs.Math.Nat.{mul_assoc, mul-le-mul_left, mul-le-mul_right, one-mul, mul-one}
@@ -9,7 +9,6 @@ use Rattle.fab_rules.specs.Lists.{In}
 use Rattle.fault_script.specs.declared.scripts.Script.{Script}
 use Rattle.fault_script.specs.declared.scripts.Wish.{Wish}
 use Rattle.fault_script.specs.Scripts.{keeps_limits}
-use Rattle.world_laws.specs.World.{NoClash}
 use Rattle.run_words.specs.Lawful.{entries_of}
 use Rattle.run_words.specs.Runs.{HasEnded, IsSchedule, Phase, after, transcript}
 use Rattle.run_words.proofs.Ending.{told_with}
@@ -18,7 +17,6 @@ use Rattle.run_words.specs.declared.ends.End.{End}
 use Rattle.run_words.specs.declared.ends.Evidence.{Evidence}
 use Rattle.run_words.specs.declared.logs.Transcript.{Transcript}
 use Rattle.run_worlds.specs.Scripts.{roster_of, script_rules}
-use Rattle.run_worlds.specs.Worlds.{world_of}
 use Rattle.run_worlds.specs.Sights.{first_evidence}
 use Rattle.run_worlds.specs.Endings.{is_effective, first_missing, IsRunOf, IsEnd, IsEndBy}
 use Rattle.run_worlds.proofs.RunLogs.{logs_of}
@@ -28,8 +26,7 @@ use Rattle.run_laws.proofs.Unforged.{no_signer_named}
 use Rattle.plain_laws.specs.Plain.{IsClash, HasSpent, HasCause}
 use Rattle.plain_laws.proofs.Ends.{ends, one_cluster}
 use Rattle.budget_laws.specs.Budgets.{rounds_of, replicas_in, FitsScript, BudgetLaw}
-use Rattle.budget_laws.specs.Opened.{state_at, full_at, slots_opened}
-use Rattle.budget_laws.specs.Proposals.{IsThrifty}
+use Rattle.budget_laws.specs.Opened.{slots_opened}
 use Rattle.budget_laws.proofs.Entries.{few_entries}
 use Rattle.budget_laws.proofs.Prefixes.{at_step, run_of}
 use Rattle.budget_laws.proofs.Rounds.{leaves_are, rounds_few}
