@@ -4,3 +4,4 @@ pub mod Acts
 pub mod Ordering
 pub mod Feeding
 pub mod Moving
+pub mod Sending
