@@ -4,7 +4,7 @@ ghost use Rattle.std.specs.Prelude.{◌≡◌};
 ghost use Rattle.fab_base.specs.declared.ids.ReplicaId as ids;
 ghost use Rattle.run_words.specs.Runs.{copy_of};
 ghost use Rattle.run_words.specs.declared.logs.Parcel as parcels;
-ghost use Rattle.stage_looks.specs.Letters.{letter_of, copy_from};
+ghost use Rattle.stage_looks.specs.Letters.{letter_of, copy_from, CopiesLaw, OnceLaw};
 
 use fab_base::{Bytes, ReplicaId};
 use run_words::{Origin, Pending};
@@ -39,4 +39,11 @@ impl Letter {
 /// The copy that a parcel's letter is, is the copy that the parcel is on its way: with its number, its time and its bytes.
 pub fn letter_law()
     ensures { (from : ids.ReplicaId) (p : parcels.Parcel) → copy_from from (letter_of p) ≡ (copy_of from p).1 }
+{}
+
+/// The letters of a sender's parcels to a receiver, read as copies on the sender's link, are the copies of these parcels to that receiver, in order
+/// and each as often as it passes (`copies`); where each passes once they are the parcels' copies, one of each (`once`).
+pub fn letters_law()
+    ensures copies { CopiesLaw }
+    ensures once { OnceLaw }
 {}

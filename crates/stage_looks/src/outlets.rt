@@ -35,6 +35,19 @@ fn place_of(outlets: &[Outlet], to: ReplicaId) -> Option<usize>
     None
 }
 
+/// The parcel of a letter that came back.
+fn parcel_of(to: ReplicaId, passes: u8, letter: Letter) -> Parcel
+    ensures { (result.to ≡ to) × (result.passes ≡ passes) × (letter_of result ≡ letter) }
+{
+    Parcel {
+        to,
+        number: letter.parcel,
+        time: letter.time,
+        bytes: letter.bytes,
+        passes,
+    }
+}
+
 /// Pushes a letter with the parcel's own bytes. Where the link is full the parcel comes back.
 fn push_own(link: &mut LinkIn<Letter>, parcel: Parcel) -> Option<Parcel>
     ensures same { IsSameIn link.old link.new }
@@ -48,19 +61,14 @@ fn push_own(link: &mut LinkIn<Letter>, parcel: Parcel) -> Option<Parcel>
         bytes,
         passes,
     } = parcel;
-    match link.push(Letter {
+    let letter = Letter {
         parcel: number,
         time,
         bytes,
-    }) {
+    };
+    match link.push(letter) {
         Ok(()) => None,
-        Err(Full { item }) => Some(Parcel {
-            to,
-            number: item.parcel,
-            time: item.time,
-            bytes: item.bytes,
-            passes,
-        }),
+        Err(Full { item }) => Some(parcel_of(to, passes, item)),
     }
 }
 
