@@ -1,14 +1,15 @@
 -- What is pushed on outlets, letter by letter.
 use Rattle.std.proofs.Common.{◌≡◌, ℕ, zero, suc, ◌+◌, ◌<◌, ◌≤◌, ◌==◌, ◌&&◌, Bool, true, false, cond, List, [], ◌∷◌, ◌++◌, take, drop, length, get_or, set, replicate, Option, Some, None, refl, sym, ap, subst, ◌∙◌, append-nil, append_assoc, add-one}
 use Rattle.std.specs.Prelude.{IfSome, IsNone, option_to_list}
-use Rattle.std.proofs.lemmas.List.{drop_more, take_more, drop_all}
+use Rattle.std.proofs.lemmas.List.{drop_more, drop_all, get_or_default}
 use Rattle.fab_base.specs.declared.ids.ReplicaId.{ReplicaId}
 use Rattle.turn_lock.specs.Passes.{view, first_machine}
 use Rattle.stage_link.specs.Links.{pushed, IsSameIn}
+use Rattle.stage_link.specs.declared.links.LinkIn.{LinkIn}
 use Rattle.run_words.specs.Keyed.{is_same}
 use Rattle.run_words.specs.Journal.{Maker}
 use Rattle.run_words.specs.declared.logs.Parcel.{Parcel}
-use Rattle.run_words.proofs.Keys.{same_self, other_turned}
+use Rattle.run_words.proofs.Keys.{same_is, same_self, other_turned}
 use Rattle.party_turn.specs.Turns.{PartyTurn, IsPartyPass}
 use Rattle.turn_laws.specs.Workers.{Kind}
 use Rattle.turn_laws.specs.Doings.{put_of}
@@ -45,6 +46,28 @@ went_once old now p q e same h =
 -- those before a place lead elsewhere
 abbrev pub IsPassed : List Outlet → ReplicaId → ℕ → Type 0
 IsPassed outlets to k = HasNone to (drop k outlets) → HasNone to outlets
+
+same_if : (a b : ReplicaId) (x : Bool) → x ≡ ((a.cluster == b.cluster) && (a.index == b.index)) → is_same a b ≡ x
+unfolding is_same
+same_if a b x e = sym e
+
+pub is_found : (outlets : List Outlet) (to : ReplicaId) (k : ℕ) (d : Outlet) → k < length outlets
+    → true ≡ (((get_or outlets k d).to.cluster == to.cluster) && ((get_or outlets k d).to.index == to.index))
+    → IsPlaceOf to outlets (Some k)
+is_found outlets to k d lt e = (
+  lt,
+  λ o. ap (λ (x : Outlet). x.to) (get_or_default outlets k o d lt) ∙ same_is _ _ (same_if (get_or outlets k d).to to true e),
+)
+
+pub is_passed : (outlets : List Outlet) (to : ReplicaId) (k : ℕ) (d : Outlet) → k < length outlets → IsPassed outlets to k
+    → false ≡ (((get_or outlets k d).to.cluster == to.cluster) && ((get_or outlets k d).to.index == to.index))
+    → IsPassed outlets to (k + 1)
+is_passed outlets to k d lt before e n =
+    before
+    (subst (HasNone to) (sym (drop_more outlets k d lt)) (other_turned _ _ (same_if (get_or outlets k d).to to false e), n))
+
+pub is_missing : (outlets : List Outlet) (to : ReplicaId) (k : ℕ) → length outlets ≤ k → IsPassed outlets to k → IsPlaceOf to outlets None
+is_missing outlets to k le before = before (subst (HasNone to) (sym (drop_all k outlets le)) tt)
 
 -- ---- outlets
 
@@ -130,15 +153,18 @@ apart_after [] k d new same a = a
 apart_after (o ∷ rest) zero d new same a = (subst (λ to. HasNone to rest) (sym same) a.0, a.1)
 apart_after (o ∷ rest) (suc k) d new same a = (none_after o.to rest k d new same a.0, apart_after rest k d new same a.1)
 
+same_end : (l : LinkIn Letter) → IsSameIn l l
+same_end l = ((refl, refl, refl, refl), refl)
+
 pub same_all : (outlets : List Outlet) → AreSameOutlets outlets outlets
 same_all [] = tt
-same_all (o ∷ rest) = (refl, (search rules, same_all rest))
+same_all (o ∷ rest) = (refl, (same_end o.link, same_all rest))
 
 pub same_after : (outlets : List Outlet) (k : ℕ) (d new : Outlet) → new.to ≡ (get_or outlets k d).to → IsSameIn (get_or outlets k d).link new.link
     → AreSameOutlets outlets (set outlets k new)
 same_after [] k d new same link = tt
 same_after (o ∷ rest) zero d new same link = (same, (link, same_all rest))
-same_after (o ∷ rest) (suc k) d new same link = (refl, (search rules, same_after rest k d new same link))
+same_after (o ∷ rest) (suc k) d new same link = (refl, (same_end o.link, same_after rest k d new same link))
 
 -- ---- the hand
 
