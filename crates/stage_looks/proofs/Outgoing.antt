@@ -1,7 +1,7 @@
 -- What is pushed on outlets, letter by letter.
-use Rattle.std.proofs.Common.{◌≡◌, ℕ, zero, suc, ◌+◌, ◌<◌, ◌≤◌, ◌==◌, ◌&&◌, Bool, true, false, cond, List, [], ◌∷◌, ◌++◌, take, drop, length, get_or, set, replicate, Option, Some, None, refl, sym, ap, subst, ◌∙◌, append-nil, append_assoc, add-one}
+use Rattle.std.proofs.Common.{◌≡◌, ℕ, zero, suc, ◌+◌, ◌<◌, ◌≤◌, ◌==◌, ◌&&◌, Bool, true, false, cond, List, [], ◌∷◌, ◌++◌, take, drop, length, get_or, set, replicate, Option, Some, None, refl, sym, ap, subst, ◌∙◌, arith, append-nil, append_assoc, add-one}
 use Rattle.std.specs.Prelude.{IfSome, IsNone, option_to_list}
-use Rattle.std.proofs.lemmas.List.{drop_more, drop_all, get_or_default}
+use Rattle.std.proofs.lemmas.List.{drop_more, drop_all, get_or_default, set-get_or}
 use Rattle.fab_base.specs.declared.ids.ReplicaId.{ReplicaId}
 use Rattle.turn_lock.specs.Passes.{view, first_machine}
 use Rattle.stage_link.specs.Links.{pushed, IsSameIn}
@@ -100,9 +100,9 @@ sent_elsewhere put hand p left (o ∷ rest) h n s = (
 
 none_at : (to : ReplicaId) (outlets : List Outlet) (k : ℕ) (d : Outlet) → k < length outlets → HasNone to outlets
     → is_same to (get_or outlets k d).to ≡ false
-none_at to [] k d lt n = absurd (omega lt)
+none_at to [] k d lt n = absurd (omega arith)
 none_at to (o ∷ rest) zero d lt n = n.0
-none_at to (o ∷ rest) (suc k) d lt n = none_at to rest k d (omega lt) n.1
+none_at to (o ∷ rest) (suc k) d lt n = none_at to rest k d (omega arith) n.1
 
 sent_here : (put hand : List Parcel) (p : Parcel) (left : Option Parcel) (o new : Outlet) → o.to ≡ p.to → new.to ≡ o.to
     → pushed new.link ++ letters_left left ≡ pushed o.link ++ letters_of p
@@ -130,15 +130,15 @@ pub sent_at : (put hand : List Parcel) (p : Parcel) (left : Option Parcel) (outl
     → AreApart outlets
     → AreSent put (p ∷ hand) outlets
     → AreSent put (option_to_list left ++ hand) (set outlets k new)
-sent_at put hand p left [] k d new lt at same went h apart s = absurd (omega lt)
+sent_at put hand p left [] k d new lt at same went h apart s = absurd (omega arith)
 sent_at put hand p left (o ∷ rest) zero d new lt at same went h apart s = (
   sent_here put hand p left o new at same went h s.0,
   sent_elsewhere put hand p left rest h (subst (λ to. HasNone to rest) at apart.0) s.1,
 )
 sent_at put hand p left (o ∷ rest) (suc k) d new lt at same went h apart s =
-    let other : is_same o.to p.to ≡ false = ap (is_same o.to) (sym at) ∙ none_at o.to rest k d (omega lt) apart.0 in (
+    let other : is_same o.to p.to ≡ false = ap (is_same o.to) (sym at) ∙ none_at o.to rest k d (omega arith) apart.0 in (
       ap (λ l. pushed o.link ++ l) (left_elsewhere o.to p left hand h other) ∙ s.0,
-      sent_at put hand p left rest k d new (omega lt) at same went h apart.1 s.1,
+      sent_at put hand p left rest k d new (omega arith) at same went h apart.1 s.1,
     )
 
 none_after : (to : ReplicaId) (outlets : List Outlet) (k : ℕ) (d new : Outlet) → new.to ≡ (get_or outlets k d).to → HasNone to outlets
@@ -158,13 +158,36 @@ same_end l = ((refl, refl, refl, refl), refl)
 
 pub same_all : (outlets : List Outlet) → AreSameOutlets outlets outlets
 same_all [] = tt
-same_all (o ∷ rest) = (refl, (same_end o.link, same_all rest))
+same_all (o ∷ rest) = (refl, same_end o.link, same_all rest)
 
 pub same_after : (outlets : List Outlet) (k : ℕ) (d new : Outlet) → new.to ≡ (get_or outlets k d).to → IsSameIn (get_or outlets k d).link new.link
     → AreSameOutlets outlets (set outlets k new)
 same_after [] k d new same link = tt
-same_after (o ∷ rest) zero d new same link = (same, (link, same_all rest))
-same_after (o ∷ rest) (suc k) d new same link = (refl, (same_end o.link, same_after rest k d new same link))
+same_after (o ∷ rest) zero d new same link = (same, link, same_all rest)
+same_after (o ∷ rest) (suc k) d new same link = (refl, same_end o.link, same_after rest k d new same link)
+
+-- what `post` does: an outlet was found where `slice` has it, and a letter was pushed there
+module _ (p : Parcel) (outlets slice : List Outlet) (k : ℕ) (d new : Outlet) (is : slice ≡ outlets) (place : IsPlaceOf p.to slice (Some k))
+    (value : d ≡ get_or outlets k d) where
+  pub post_apart : new.to ≡ d.to → AreApart outlets → AreApart (set outlets k new)
+  post_apart same apart = apart_after outlets k d new (same ∙ ap (λ (o : Outlet). o.to) value) apart
+
+  pub post_same : new.to ≡ d.to → IsSameIn d.link new.link → AreSameOutlets outlets (set outlets k new)
+  post_same same link =
+      same_after outlets k d new (same ∙ ap (λ (o : Outlet). o.to) value) (subst (λ (o : Outlet). IsSameIn o.link new.link) value link)
+
+  pub post_sent : (left : Option Parcel) → new.to ≡ d.to → pushed new.link ++ letters_left left ≡ pushed d.link ++ letters_of p
+      → IfSome left (λ q. q.to ≡ p.to)
+      → AreApart outlets
+      → (put hand : List Parcel) → AreSent put (p ∷ hand) outlets
+      → AreSent put (option_to_list left ++ hand) (set outlets k new)
+  post_sent left same went h apart put hand s =
+      let found = subst (λ (l : List Outlet). IsPlaceOf p.to l (Some k)) is place in
+      sent_at put hand p left outlets k d new found.0 (found.1 d) (same ∙ ap (λ (o : Outlet). o.to) value)
+      (went ∙ ap (λ (o : Outlet). pushed o.link ++ letters_of p) value) h apart s
+
+  pub post_nothing : new ≡ d → set outlets k new ≡ outlets
+  post_nothing same = ap (set outlets k) (same ∙ value) ∙ set-get_or outlets k d
 
 -- ---- the hand
 

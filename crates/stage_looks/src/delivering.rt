@@ -52,7 +52,7 @@ impl<P: Party> OutputHand<P> {
         ensures fits { FitsOutput P.made turn.now self.new }
         ensures same { IsSameOutput self.old self.new }
         ensures busy { result ≢ Idle }
-        ensures refused { result ≡ NoMemoryLook → (unsent self.new ≡ parcel ∷ unsent self.old) × (self.new.outlets ≡ self.old.outlets) }
+        ensures refused { result ≡ NoMemoryLook → (unsent self.new ≡ parcel ∷ unsent self.old) × (self.new.outlets.items ≡ self.old.outlets.items) }
     {
         let _ = turn;
         let (left, look) = post(&mut self.outlets, parcel);
@@ -68,7 +68,7 @@ impl<P: Party> OutputHand<P> {
         ensures fits { FitsOutput P.made turn.now self.new }
         ensures same { IsSameOutput self.old self.new }
         ensures idle { result ≡ Idle → (unsent self.new ≡ []) × IsStill (P.made (first_machine turn.now).first) movers.Mover.Emit self.new.told (view self.new.act) }
-        ensures refused { result ≡ NoMemoryLook → (unsent self.new ≡ []) × (self.new.outlets ≡ self.old.outlets) }
+        ensures refused { result ≡ NoMemoryLook → (unsent self.new ≡ []) × (self.new.outlets.items ≡ self.old.outlets.items) }
     {
         match emit(turn, &mut self.act) {
             Sent::Out(parcels) => {
@@ -98,7 +98,7 @@ impl<P: Party> OutputHand<P> {
         ensures fits { FitsOutput P.made turn.now self.new }
         ensures same { IsSameOutput self.old self.new }
         ensures idle { result ≡ Idle → (unsent self.new ≡ []) × IsStill (P.made (first_machine turn.now).first) movers.Mover.Emit self.new.told (view self.new.act) }
-        ensures refused { result ≡ NoMemoryLook → (unsent self.new ≡ unsent self.old) × (self.new.outlets ≡ self.old.outlets) }
+        ensures refused { result ≡ NoMemoryLook → (unsent self.new ≡ unsent self.old) × (self.new.outlets.items ≡ self.old.outlets.items) }
     {
         match self.next_parcel() {
             Some(parcel) => self.send(turn, parcel),

@@ -133,7 +133,7 @@ pub(crate) fn post(outlets: &mut Vec<Outlet>, parcel: Parcel) -> (Option<Parcel>
     ensures sent { (put hand : List parcels.Parcel) → AreSent put (parcel ∷ hand) outlets.old.items → AreSent put (option_to_list result.0 ++ hand) outlets.new.items }
     ensures same { AreSameOutlets outlets.old.items outlets.new.items }
     ensures busy { result.1 ≢ Idle }
-    ensures refused { result.1 ≡ NoMemoryLook → (result.0 ≡ Some parcel) × (outlets.new ≡ outlets.old) }
+    ensures refused { result.1 ≡ NoMemoryLook → (result.0 ≡ Some parcel) × (outlets.new.items ≡ outlets.old.items) }
 {
     match place_of(outlets, parcel.to) {
         None => {
