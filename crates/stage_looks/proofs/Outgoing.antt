@@ -1,6 +1,7 @@
 -- What is pushed on outlets, letter by letter.
 use Rattle.std.proofs.Common.{◌≡◌, ℕ, zero, suc, ◌+◌, ◌<◌, ◌≤◌, ◌==◌, ◌&&◌, Bool, true, false, cond, List, [], ◌∷◌, ◌++◌, take, drop, length, get_or, set, replicate, Option, Some, None, refl, sym, ap, subst, ◌∙◌, arith, append-nil, append_assoc, add-one}
 use Rattle.std.specs.Prelude.{IfSome, IsNone, option_to_list}
+use Rattle.std.specs.Vec.Iter.{into_iter_items}
 use Rattle.std.proofs.lemmas.List.{drop_more, drop_all, get_or_default, set-get_or}
 use Rattle.fab_base.specs.declared.ids.ReplicaId.{ReplicaId}
 use Rattle.turn_lock.specs.Passes.{view, first_machine}
@@ -225,9 +226,22 @@ module _ {P : Type 0} (made : P → Maker) (turn : PartyTurn P) (a b : OutputHan
         (subst (λ l. AreSent l parcels a.outlets.items) (sym put) (sent_more (put_by made turn a) parcels a.outlets.items h.sent));
   }
 
-  -- nothing was put
-  pub stays : b.outlets ≡ a.outlets → IsPartyPass made turn b.act → KeepsKind Kind.Sending (view a.act) (view b.act)
-      → put_by made turn b ≡ put_by made turn a
-      → Delivers made turn a []
-      → Delivers made turn b []
-  stays outlets pass kinds put h = fetched [] outlets pass kinds (put ∙ sym (append-nil (put_by made turn a))) h
+  -- a parcel was sent once, and this is left of it
+  pub sent_once : (p : Parcel) (left : Option Parcel) → a.first ≡ None → b.act ≡ a.act → b.first ≡ left → b.rest ≡ a.rest → AreApart b.outlets.items
+      → ((put hand : List Parcel) → AreSent put (p ∷ hand) a.outlets.items → AreSent put (option_to_list left ++ hand) b.outlets.items)
+      → Delivers made turn a (p ∷ unsent a)
+      → FitsOutput made turn b
+  sent_once p left free act first rest apart sent h =
+      let now : unsent b ≡ option_to_list left ++ unsent a =
+      ap (λ f. option_to_list f ++ into_iter_items b.rest) first ∙ ap (λ r. option_to_list left ++ into_iter_items r) rest
+      ∙ ap (λ f. option_to_list left ++ (option_to_list f ++ into_iter_items a.rest)) (sym free) in
+      delivers_on (p ∷ unsent a) (unsent b) act apart
+      (λ s. subst (λ l. AreSent (put_by made turn a) l b.outlets.items) (sym now) (sent (put_by made turn a) (unsent a) s)) h
+
+  -- nothing is in hand
+  pub emptied : b.act ≡ a.act → b.outlets ≡ a.outlets → unsent a ≡ [] → FitsOutput made turn a → Delivers made turn b []
+  emptied act outlets none h =
+      delivers_on (unsent a) [] act (subst (λ o. AreApart o.items) (sym outlets) h.apart)
+      (λ s.
+        subst (λ o. AreSent (put_by made turn a) [] o.items) (sym outlets) (subst (λ l. AreSent (put_by made turn a) l a.outlets.items) none s))
+      h

@@ -1,6 +1,6 @@
 //! The output worker.
 
-ghost use Rattle.std.specs.Prelude.{◌≡◌, ◌≢◌, ◌++◌, ◌∷◌, [], None, option_to_list};
+ghost use Rattle.std.specs.Prelude.{◌≡◌, ◌≢◌, ◌++◌, ◌∷◌, [], None, IsNone, option_to_list};
 ghost use Rattle.run_words.specs.declared.movers.Mover as movers;
 ghost use Rattle.turn_lock.specs.Passes.{view, first_machine};
 ghost use Rattle.stage_workers.specs.declared.look.Look.TheVariants.{Idle, NoMemory as NoMemoryLook};
@@ -36,6 +36,7 @@ impl<P: Party> OutputHand<P> {
     /// The first of the parcels that it has to send.
     fn next_parcel(&mut self) -> Option<Parcel>
         ensures parcels { unsent self.old ≡ option_to_list result ++ unsent self.new }
+        ensures none { IsNone result → unsent self.new ≡ [] }
         ensures free { self.new.first ≡ None }
         ensures same { (self.new.act ≡ self.old.act) × (self.new.outlets ≡ self.old.outlets) × (self.new.told ≡ self.old.told) }
     {
