@@ -1,11 +1,10 @@
 -- What one act of each kind of worker does.
-use Rattle.std.proofs.Common.{◌≡◌, ◌≢◌, ℕ, Bool, true, false, cond, List, [], ◌∷◌, ◌++◌, length, true≢false, refl, sym, ap, ◌∙◌, append-nil}
+use Rattle.std.proofs.Common.{◌≡◌, ◌≢◌, ℕ, Bool, true, false, cond, List, ◌++◌, length, true≢false, refl, sym, ap, ◌∙◌, append-nil}
 use Rattle.turn_lock.specs.Numbers.{has, least}
-use Rattle.turn_lock.specs.Histories.{IsStartOf, entries}
+use Rattle.turn_lock.specs.Histories.{entries}
 use Rattle.turn_lock.specs.Views.{own, Knows}
 use Rattle.turn_lock.specs.declared.known.Known.{Known}
 use Rattle.turn_lock.proofs.SeatRows.{has_least}
-use Rattle.fab_machine.specs.Step.{makes_entry}
 use Rattle.fab_base.specs.declared.answers.Answer.{Answer}
 use Rattle.run_words.specs.Journal.{Maker, walk, added, signed_of, is_blocked, moves, entry_of as entry_by}
 use Rattle.run_words.specs.Acts.{act_of, told_of, told_of_emit, told_entry, told_parcels}
@@ -18,15 +17,13 @@ use Rattle.run_words.proofs.Tellings.{tells}
 use Rattle.party_turn.specs.Playing.{Plays}
 use Rattle.party_turn.specs.Turns.{Acts}
 use Rattle.party_turn.specs.declared.answered.Answered.{Answered}
-use Rattle.turn_laws.specs.Workers.{Kind, kind_of, AreOf}
+use Rattle.turn_laws.specs.Workers.{Kind, kind_of}
 use Rattle.turn_laws.specs.Doings.{hearings, heard_by, is_refused, put_of}
 use Rattle.turn_laws.proofs.Seats.{kinds, hears, emits, still}
 use Rattle.stage_looks.specs.Items.{entry_of}
 use Rattle.stage_looks.specs.Acts.{KeepsKind, IsStill, Hears, heard_of, Sends, sent_of, Does, did_of}
 use Rattle.stage_looks.specs.declared.doing.Did.{Did}
-use Rattle.stage_looks.specs.declared.hearing.Heard.{Heard}
 use Rattle.stage_looks.specs.declared.items.Item.{Item}
-use Rattle.stage_looks.specs.declared.sending.Sent.{Sent}
 
 -- ---- Emit that puts nothing has nothing to do
 

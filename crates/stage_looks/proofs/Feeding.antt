@@ -1,5 +1,5 @@
 -- What an input worker has put and refused, copy by copy.
-use Rattle.std.proofs.Common.{◌≡◌, ◌++◌, ◌⊎◌, ℕ, List, [], ◌∷◌, Option, Some, None, Result, Ok, Err, refl, sym, ap, subst, ◌∙◌, inl, inr, append-nil, append_assoc}
+use Rattle.std.proofs.Common.{◌≡◌, ◌++◌, ℕ, List, [], ◌∷◌, Some, None, Result, Ok, Err, refl, sym, ap, subst, ◌∙◌, inl, inr, append-nil, append_assoc}
 use Rattle.std.specs.List.{flat_map}
 use Rattle.std.proofs.lemmas.List.{append_cancel_right}
 use Rattle.fab_base.specs.declared.messages.Message.{Message}
@@ -13,7 +13,6 @@ use Rattle.run_words.specs.Runs.{Declined, turned_of, turned_by}
 use Rattle.run_words.specs.declared.logs.Entry.{Entry}
 use Rattle.run_words.specs.declared.logs.Pending.{Pending}
 use Rattle.run_words.specs.declared.logs.Turned.{Turned}
-use Rattle.stage_link.specs.Producers.{with_put}
 use Rattle.stage_link.specs.Queues.{known}
 use Rattle.turn_laws.specs.Copies.{item_by, declined_by, items, refused}
 use Rattle.stage_looks.specs.Items.{entry_of, entries_of, in_hand}

@@ -1,5 +1,5 @@
 -- What is pushed on outlets, letter by letter.
-use Rattle.std.proofs.Common.{◌≡◌, ℕ, zero, suc, ◌+◌, ◌<◌, ◌≤◌, ◌==◌, ◌&&◌, Bool, true, false, cond, List, [], ◌∷◌, ◌++◌, take, drop, length, get_or, set, replicate, Option, Some, None, refl, sym, ap, subst, ◌∙◌, arith, append-nil, append_assoc, add-one}
+use Rattle.std.proofs.Common.{◌≡◌, ℕ, zero, suc, ◌+◌, ◌<◌, ◌≤◌, ◌==◌, ◌&&◌, Bool, true, false, cond, List, [], ◌∷◌, ◌++◌, drop, length, get_or, set, replicate, Option, Some, None, refl, sym, ap, subst, ◌∙◌, arith, append-nil, append_assoc, add-one}
 use Rattle.std.specs.Prelude.{IfSome, IsNone, option_to_list}
 use Rattle.std.specs.Vec.Iter.{into_iter_items}
 use Rattle.std.proofs.lemmas.List.{drop_more, drop_all, get_or_default, set-get_or}
@@ -198,6 +198,10 @@ sent_more put parcels (o ∷ rest) s = (
   ap (λ l. l ++ letters_to o.to parcels) (sym (append-nil (pushed o.link)) ∙ s.0) ∙ sym (letters_both o.to put parcels),
   sent_more put parcels rest s.1,
 )
+
+-- the same outlets in the middle and at the end
+pub after_none : {P : Type 0} (a b c : OutputHand P) → b.outlets ≡ a.outlets → c.outlets.items ≡ b.outlets.items → c.outlets.items ≡ a.outlets.items
+after_none a b c middle end = subst (λ v. c.outlets.items ≡ v.items) middle end
 
 module _ {P : Type 0} (made : P → Maker) (turn : PartyTurn P) (a b : OutputHand P) where
   -- the same pass, and other parcels in hand

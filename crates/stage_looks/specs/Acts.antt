@@ -1,5 +1,5 @@
 -- What one act of each kind of worker does to what its pass knows.
-use Rattle.std.specs.Prelude.{◌≡◌, ℕ, Bool, true, false, cond, List, [], ◌∷◌, ◌++◌, length}
+use Rattle.std.specs.Prelude.{◌≡◌, ℕ, false, cond, List, [], ◌∷◌, ◌++◌, length}
 use Rattle.turn_lock.specs.Histories.{IsStartOf, entries}
 use Rattle.turn_lock.specs.Views.{own}
 use Rattle.turn_lock.specs.declared.known.Known.{Known}

@@ -1,5 +1,5 @@
 -- What an input worker has put and refused of what it popped.
-use Rattle.std.specs.Prelude.{◌≡◌, ◌++◌, ◌⊎◌, ℕ, true, List, [], ◌∷◌, Option, Some, None}
+use Rattle.std.specs.Prelude.{◌≡◌, ◌++◌, ◌⊎◌, true, List, [], ◌∷◌, Option, Some, None}
 use Rattle.std.specs.List.{flat_map}
 use Rattle.fab_base.specs.Limits.{Roster}
 use Rattle.bft_verify.specs.Ring.{Ring}
@@ -12,7 +12,7 @@ use Rattle.run_words.specs.Journal.{Maker}
 use Rattle.run_words.specs.Runs.{turned_of}
 use Rattle.run_words.specs.declared.logs.Pending.{Pending}
 use Rattle.turn_laws.specs.Copies.{items, refused}
-use Rattle.stage_looks.specs.Items.{entry_of, entries_of, in_hand}
+use Rattle.stage_looks.specs.Items.{entries_of, in_hand}
 use Rattle.stage_looks.specs.declared.items.Item.{Item}
 use Rattle.stage_looks.specs.declared.reading.InputHand.{InputHand}
 

@@ -1,5 +1,5 @@
 -- What the order worker holds, beside what it has heard.
-use Rattle.std.specs.Prelude.{◌≡◌, ◌++◌, ℕ, ◌<◌, true, false, List, [], map}
+use Rattle.std.specs.Prelude.{◌≡◌, ◌++◌, ℕ, ◌<◌, true, false, List, map}
 use Rattle.fab_base.specs.Limits.{Roster}
 use Rattle.fab_rules.specs.Lists.{In}
 use Rattle.bft_verify.specs.Ring.{Ring}

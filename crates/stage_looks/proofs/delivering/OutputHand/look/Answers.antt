@@ -1,6 +1,6 @@
-use Rattle.std.proofs.Common.{◌≡◌, [], refl, sym, ap, ◌∙◌}
+use Rattle.std.proofs.Common.{◌≡◌, [], refl, sym, ◌∙◌}
 use Rattle.stage_looks.specs.Sending.{unsent}
-use Rattle.stage_looks.proofs.Outgoing.{emptied}
+use Rattle.stage_looks.proofs.Outgoing.{emptied, after_none}
 use Rattle.stage_looks.proofs.delivering.OutputHand.look.Goals as goal
 
 pub fetch-requires-clause-delivers : goal.fetch-requires-clause-delivers
@@ -16,5 +16,5 @@ pub returns-in-None-clause-refused : goal.returns-in-None-clause-refused
 returns-in-None-clause-refused g c = λ e.
     let none : unsent c.args.self.now ≡ [] = c.in-None.ensures.parcels ∙ c.in-None.ensures.none refl in (
       (c.fetch.ensures.refused e).0 ∙ sym none,
-      (c.fetch.ensures.refused e).1 ∙ ap (λ v. v.items) c.next_parcel.ensures.same.1,
+      after_none c.args.self.now c.next_parcel.new.self c.fetch.new.self c.next_parcel.ensures.same.1 (c.fetch.ensures.refused e).1,
     )
