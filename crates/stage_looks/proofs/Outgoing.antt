@@ -247,5 +247,5 @@ module _ {P : Type 0} (made : P → Maker) (turn : PartyTurn P) (a b : OutputHan
   emptied act outlets none h =
       delivers_on (unsent a) [] act (subst (λ o. AreApart o.items) (sym outlets) h.apart)
       (λ s.
-        subst (λ o. AreSent (put_by made turn a) [] o.items) (sym outlets) (subst (λ l. AreSent (put_by made turn a) l a.outlets.items) none s))
+      subst (λ o. AreSent (put_by made turn a) [] o.items) (sym outlets) (subst (λ l. AreSent (put_by made turn a) l a.outlets.items) none s))
       h

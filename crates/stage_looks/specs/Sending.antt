@@ -44,7 +44,7 @@ abbrev pub IsPlaceOf : ReplicaId → List Outlet → Option ℕ → Type 0
 IsPlaceOf to outlets None = HasNone to outlets
 IsPlaceOf to outlets (Some k) = (k < length outlets) × ((o : Outlet) → (slice_index_or outlets k o).to ≡ to)
 
--- a parcel that is in hand, if there is one
+-- the letters of what is left of a parcel
 abbrev pub letters_left : Option Parcel → List Letter
 letters_left None = []
 letters_left (Some p) = letters_of p

@@ -36,5 +36,5 @@ returns-in-Some-clause-refused c = λ e.
     let same : new ≡ d = ap (λ l. record { to = d.to; link = l }) (c.push_one.ensures.refused e).1 in (
       (c.push_one.ensures.refused e).0,
       post_nothing c.args.parcel c.args.outlets.now.items c.deref.result.now c.in-Some.place d new c.deref.ensures.value c.in-Some.ensures
-      c.index_mut.ensures.value same,
+          c.index_mut.ensures.value same,
     )
