@@ -2,15 +2,16 @@
 # Counts the instructions of `verify` and of `decode` on three messages of a cluster of ten: a Prepare, a Share of 7 Commits, and a new
 # view of 7 view changes. Run by hand.
 #
-# Counted with valgrind's callgrind, which is the same in each run, inside the call alone, and asserted: of `verify` at most 3 of 100
-# instructions are outside SHA-256's block function, and `decode` of the new view takes at most 2 instructions a byte.
+# Counted with valgrind's callgrind, which is the same in each run, inside the call alone, and asserted: of `verify` at most 8 of 100
+# instructions are outside SHA-256's block function and the steps of four chains, and `decode` of the new view takes at most 2 instructions a
+# byte. (What is outside was 3 of 100 while chains went one after another: since then the steps take half as many.)
 # `bench/verify.messages` has the fabric and the messages as message_check reads them.
 set -euo pipefail
 top=$(cd "$(dirname "${BASH_SOURCE[0]}")/.." && pwd)
 program=$("$top/tests/message_program.sh")
 source "$top/bench/checks.sh"
 
-# Prints the instructions of SHA-256's block function and all instructions inside `verify`, for the message in LINE.
+# Prints the instructions of blocks and steps and all instructions inside `verify`, for the message in LINE.
 count_verify() { # count_verify LINE
   sed -n "1p;$1p" "$top/bench/verify.messages" >"$work/asked"
   valgrind --tool=callgrind --toggle-collect='bft_verify::verifying::verify*' --callgrind-out-file="$work/out" \
@@ -39,8 +40,8 @@ line=2
 for message in "a Prepare" "a Share of 7 Commits" "a new view of 7 changes"; do
   read -r inside all < <(count_verify $line)
   share=$(awk "BEGIN { printf \"%.2f\", $all ? 100 * ($all - $inside) / $all : 100 }")
-  check "verify of $message: $share of 100 instructions outside the block function, $all in all" \
-    "$(awk "BEGIN { print ($all > 0 && $share <= 3) }")"
+  check "verify of $message: $share of 100 instructions outside blocks and steps, $all in all" \
+    "$(awk "BEGIN { print ($all > 0 && $share <= 8) }")"
   bytes=$(sed -n "${line}p" "$top/bench/verify.messages" | awk '{ print length($0) / 2 }')
   all=$(count_decode $line)
   each=$(awk "BEGIN { printf \"%.2f\", $all / $bytes }")

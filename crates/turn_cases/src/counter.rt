@@ -30,6 +30,11 @@ impl Counter {
         }
     }
 
+    /// How many steps were made.
+    pub(crate) fn count(&self) -> usize {
+        self.steps.len()
+    }
+
     /// All steps.
     pub(crate) fn into_steps(self) -> Vec<Step>
         ensures { result.items ≡ self.steps.items }

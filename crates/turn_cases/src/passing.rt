@@ -1,4 +1,4 @@
-//! Three producers and one consumer at a stage queue.
+//! Producers and one consumer at a stage queue.
 
 ghost use Rattle.std.specs.Prelude.{◌≡◌, true, All, IfOk};
 ghost use Rattle.stage_link.specs.Queues.{known, IsQueuePass};
@@ -13,12 +13,6 @@ use stage_workers::{Crew, Gate, Look, MOST_TRIES, Patience, Post};
 use std::alloc::{AllocError, Global};
 use std::sync::Wait;
 use std::thread::Threads;
-
-/// How many producers there are.
-pub(crate) const PRODUCERS: u8 = 3;
-
-/// How many items each puts.
-pub(crate) const ITEMS: u32 = 50;
 
 /// How many items the queue has room for.
 const ROOM: usize = 8;
@@ -44,6 +38,8 @@ pub(crate) struct Putting {
     producer: u8,
     pass: QueuePass<Item>,
     put: u32,
+    /// How many items it is to put.
+    items: u32,
 }
 
 /// What the consumer owns.
@@ -68,7 +64,7 @@ impl Line {
         ensures pass { IsQueuePass self.now.queue hand.new.pass }
         ensures puts { (known hand.new.pass).puts ≡ true }
     {
-        if hand.put >= ITEMS {
+        if hand.put >= hand.items {
             return Look::Idle;
         }
         let item = Item {
@@ -134,13 +130,15 @@ impl Crew for Line {
     ghost transitive = { λ c f g h p q. tt };
 }
 
-/// All items, as the consumer took them.
+/// So many producers put so many items each. Gives all items as the consumer took them.
 pub(crate) fn pass_all<R: Threads + Wait + Sync>(
     rt: &R,
     alloc: Global,
+    producers: u8,
+    items: u32,
 ) -> Result<Vec<Item>, AllocError> {
     let (queue, own) = stage_queue(alloc, ROOM)?;
-    let mut posts = posts_of(alloc, &queue, own)?;
+    let mut posts = posts_of(alloc, &queue, own, producers, items)?;
     let crew = Line { queue };
     run(rt, &crew, &mut posts);
     finish(rt, crew, posts)
@@ -151,21 +149,24 @@ fn posts_of(
     alloc: Global,
     queue: &StageQueue<Item>,
     mut own: QueuePass<Item>,
+    producers: u8,
+    items: u32,
 ) -> Result<Vec<Post<Hand>>, AllocError>
     requires pass { IsQueuePass queue.now own }
     requires takes { (known own).takes ≡ true }
     ensures { IfOk result (λ posts. All (λ (p : Post Hand). IsHandOf (record { queue = queue.now }) p.hand) posts.items) }
 {
-    let mut posts = Vec::with_capacity(alloc, PRODUCERS as usize + 1)?;
-    for producer in 1..PRODUCERS + 1 {
+    let mut posts = Vec::with_capacity(alloc, producers as usize + 1)?;
+    for producer in 0..producers {
         let pass = queue.split_pass(&mut own)?;
         posts.push(post(Hand::Producer(Putting {
-            producer,
+            producer: producer + 1,
             pass,
             put: 0,
+            items,
         })))?;
     }
-    let took = Vec::with_capacity(alloc, PRODUCERS as usize * ITEMS as usize)?;
+    let took = Vec::new(alloc);
     posts.push(post(Hand::Consumer(Taking { pass: own, took })))?;
     Ok(posts)
 }
@@ -205,7 +206,7 @@ fn join_all<R: Wait>(
     requires posts { All (λ (p : Post Hand). IsHandOf crew p.hand) posts.items }
 {
     let Taking { mut pass, mut took } = own;
-    for _ in 0..PRODUCERS {
+    for _ in 0..posts.len() {
         match posts.pop() {
             None => break,
             Some(other) => join(&crew, &mut pass, other.hand),
@@ -234,20 +235,34 @@ fn join(crew: &Line, pass: &mut QueuePass<Item>, hand: Hand)
     }
 }
 
-/// Whether the items of this producer are there, each once and in its order.
-pub(crate) fn are_all(items: &[Item], producer: u8) -> &'static str {
+/// A consumer looks so often at a queue in which there is nothing. Gives how many items it took.
+pub(crate) fn look_at_nothing<R: Wait>(
+    rt: &R,
+    alloc: Global,
+    looks: u32,
+) -> Result<usize, AllocError> {
+    let (queue, pass) = stage_queue(alloc, ROOM)?;
+    let line = Line { queue };
+    let mut hand = Taking {
+        pass,
+        took: Vec::new(alloc),
+    };
+    for _ in 0..looks {
+        let _said = line.take(rt, &mut hand);
+    }
+    Ok(hand.took.len())
+}
+
+/// Whether so many items of this producer are there, each once and in its order.
+pub(crate) fn are_all(items: &[Item], producer: u8, count: u32) -> bool {
     let mut next = 0;
     for item in items {
         if item.producer == producer {
-            if next >= ITEMS || item.number != next {
-                return "out of order";
+            if next >= count || item.number != next {
+                return false;
             }
             next += 1;
         }
     }
-    if next == ITEMS {
-        "50 items, each once and in order"
-    } else {
-        "not all"
-    }
+    next == count
 }

@@ -1,6 +1,6 @@
-//! Eight workers that step one machine under a turn.
+//! Workers that step one machine under a turn.
 
-ghost use Rattle.std.specs.Prelude.{◌≡◌, ◌≤◌, All, IfOk};
+ghost use Rattle.std.specs.Prelude.{◌≡◌, ◌<◌, All, IfOk};
 ghost use Rattle.turn_cases.specs.Counting.{IsPass};
 ghost use Rattle.turn_cases.specs.Crews.{IsStepperOf};
 ghost use Rattle.turn_cases.specs.declared.stepping.Stepper.{Stepper};
@@ -15,12 +15,6 @@ use std::sync::Wait;
 use std::thread::Threads;
 use turn_lock::{Busy, Pass, Turn, turn};
 
-/// How many workers there are.
-pub(crate) const WORKERS: u8 = 8;
-
-/// How many steps each makes.
-pub(crate) const STEPS: u32 = 100;
-
 /// The turn, which all share.
 #[derive(Drop)]
 pub(crate) struct Steppers {
@@ -33,6 +27,8 @@ pub(crate) struct Stepper {
     worker: u8,
     pass: Pass<Counter>,
     made: u32,
+    /// How many steps it is to make.
+    steps: u32,
 }
 
 impl Crew for Steppers {
@@ -51,7 +47,7 @@ impl Crew for Steppers {
     /// Makes a step, as long as one is left. Where another has the machine it rests for a moment, and looks again.
     fn look<R: Wait, G: Gate<u8>>(&self, _rt: &R, hand: &mut Stepper, gate: &G) -> Look {
         gate.pass(hand.worker);
-        if hand.made >= STEPS {
+        if hand.made >= hand.steps {
             return Look::Idle;
         }
         let step = Step {
@@ -76,16 +72,20 @@ impl Crew for Steppers {
     ghost transitive = { λ c f g h p q. tt };
 }
 
-/// All steps, as they stand in the closed history.
+/// So many workers make so many steps each. Gives all steps as they stand in the closed history.
 pub(crate) fn step_all<R: Threads + Wait + Sync>(
     rt: &R,
     alloc: Global,
-) -> Result<Vec<Step>, AllocError> {
-    let (turn, own) = match turn(alloc, Counter::new(alloc), WORKERS) {
+    workers: u8,
+    steps: u32,
+) -> Result<Vec<Step>, AllocError>
+    requires { 0 < workers }
+{
+    let (turn, own) = match turn(alloc, Counter::new(alloc), workers) {
         Ok(made) => made,
         Err((refused, _)) => return Err(refused),
     };
-    let mut posts = posts_of(alloc, &turn, own)?;
+    let mut posts = posts_of(alloc, &turn, own, workers, steps)?;
     let crew = Steppers { turn };
     run(rt, &crew, &mut posts);
     close(crew, posts)
@@ -96,16 +96,18 @@ fn posts_of(
     alloc: Global,
     turn: &Turn<Counter>,
     mut own: Pass<Counter>,
+    workers: u8,
+    steps: u32,
 ) -> Result<Vec<Post<Stepper>>, AllocError>
     requires { IsPass turn.now own }
     ensures { IfOk result (λ posts. All (λ (p : Post Stepper). IsPass turn.now p.hand.pass) posts.items) }
 {
-    let mut posts = Vec::with_capacity(alloc, WORKERS as usize)?;
-    for worker in 1..WORKERS {
+    let mut posts = Vec::with_capacity(alloc, workers as usize)?;
+    for worker in 1..workers {
         let pass = cut(turn, &mut own)?;
-        posts.push(post(worker, pass))?;
+        posts.push(post(worker, pass, steps))?;
     }
-    posts.push(post(WORKERS, own))?;
+    posts.push(post(workers, own, steps))?;
     Ok(posts)
 }
 
@@ -123,13 +125,14 @@ fn cut(turn: &Turn<Counter>, own: &mut Pass<Counter>) -> Result<Pass<Counter>, A
 }
 
 /// The post of a worker that has made no step.
-fn post(worker: u8, pass: Pass<Counter>) -> Post<Stepper>
+fn post(worker: u8, pass: Pass<Counter>, steps: u32) -> Post<Stepper>
     ensures { result.hand.pass ≡ pass }
 {
     let hand = Stepper {
         worker,
         pass,
         made: 0,
+        steps,
     };
     Post {
         hand,
@@ -146,7 +149,7 @@ fn close(crew: Steppers, mut posts: Vec<Post<Stepper>>) -> Result<Vec<Step>, All
         return Err(AllocError);
     };
     let mut own = first.hand.pass;
-    for _ in 1..WORKERS {
+    for _ in 0..posts.len() {
         match posts.pop() {
             None => break,
             Some(other) => turn.join(&mut own, other.hand.pass),
@@ -158,20 +161,16 @@ fn close(crew: Steppers, mut posts: Vec<Post<Stepper>>) -> Result<Vec<Step>, All
     Ok(turn.close(own).into_steps())
 }
 
-/// Whether the steps of this worker are there, each once and in its order.
-pub(crate) fn are_all(steps: &[Step], worker: u8) -> &'static str {
+/// Whether so many steps of this worker are there, each once and in its order.
+pub(crate) fn are_all(steps: &[Step], worker: u8, count: u32) -> bool {
     let mut next = 0;
     for step in steps {
         if step.worker == worker {
-            if next >= STEPS || step.number != next {
-                return "out of order";
+            if next >= count || step.number != next {
+                return false;
             }
             next += 1;
         }
     }
-    if next == STEPS {
-        "100 steps, each once and in order"
-    } else {
-        "not all"
-    }
+    next == count
 }

@@ -1,0 +1,6 @@
+pub mod Workers
+pub mod Doings
+pub mod Seats
+pub mod Copies
+pub mod Takings
+pub mod Ends
