@@ -8,8 +8,7 @@ use Rattle.fab_rules.specs.Diary.{ledger}
 use Rattle.fab_rules.specs.Lists.{In}
 use Rattle.fab_rules.specs.Ledger.{RunBlock, run, start_of, state_after_blocks}
 use Rattle.fab_rules.specs.declared.blocks.Block.{Block}
-use Rattle.world_laws.specs.World.{common_ledger, longest}
-use Rattle.world_laws.specs.World as worlds
+use Rattle.world_laws.specs.World.{common_ledger}
 use Rattle.fault_script.specs.declared.scripts.Script.{Script}
 use Rattle.run_words.specs.Journal.{Maker, diary}
 use Rattle.run_words.specs.Lawful.{AreEach, Kept}
@@ -18,7 +17,7 @@ use Rattle.run_words.proofs.Keys.{same_self, other_turned}
 use Rattle.script_keys.specs.Keys.{replicas_of}
 use Rattle.run_worlds.specs.Scripts.{maker_of}
 use Rattle.run_worlds.specs.Troubles.{fault_of}
-use Rattle.run_worlds.specs.Worlds.{diary_in, world_of, ledgers_of}
+use Rattle.run_worlds.specs.Worlds.{diary_in, world_of}
 use Rattle.audit_laws.proofs.Members.{AreDistinct, replicas_are_distinct}
 use Rattle.audit_laws.proofs.Traces.{first_diary, later_diary}
 use Rattle.audit_laws.proofs.Printed.{same_replicas, common}

@@ -37,7 +37,7 @@ use Rattle.run_worlds.proofs.ScriptLimits.{within_limits}
 use Rattle.audit_laws.proofs.Members.{takes_part}
 use Rattle.ledger_report.specs.Report.{replica_line, replica_lines}
 use Rattle.replica_log.specs.Replayed.{state_after}
-use Rattle.ledger_report.specs.Replayed.{ledger_after, replica_text, ledger_counted, longest_after, HasLedger}
+use Rattle.ledger_report.specs.Replayed.{ledger_after, replica_text, longest_after, HasLedger}
 use Rattle.ledger_report.proofs.Longest.{pick, pick_none}
 
 -- ---- the state after a journal, and its diary
