@@ -1,0 +1,5 @@
+mod Deeds
+mod Holding
+mod Feeding
+mod Copied
+mod Outgoing
