@@ -1,3 +1,4 @@
+pub mod Correct
 pub mod Prefixes
 pub mod LastStamps
 pub mod Ledgers
