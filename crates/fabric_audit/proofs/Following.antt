@@ -16,7 +16,7 @@ use Rattle.run_worlds.specs.Sights.{Sight, and_then, met_with, first_clash, afte
 use Rattle.fabric_audit.specs.declared.stops.Stop.{Stop}
 use Rattle.fabric_audit.specs.Journals.{after_entry}
 use Rattle.fabric_audit.specs.Meeting.{Firsts, AreFirsts, Finds, Tells, Meets}
-use Rattle.fabric_audit.proofs.Correct.{correct_first, correct_later, correct_none}
+use Rattle.fabric_audit.proofs.CorrectOnes.{correct_first, correct_later, correct_none}
 
 abbrev pub Batches : Type 0
 Batches = List (List Request)

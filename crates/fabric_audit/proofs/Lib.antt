@@ -1,4 +1,4 @@
-pub mod Correct
+pub mod CorrectOnes
 pub mod Prefixes
 pub mod LastStamps
 pub mod Ledgers

@@ -14,7 +14,7 @@ use Rattle.run_words.proofs.Keys.{same_turned, other_turned}
 use Rattle.run_worlds.specs.Worlds.{is_correct_one, correct_of}
 use Rattle.run_worlds.specs.Sights.{is_signed_by}
 use Rattle.fabric_audit.specs.Makers.{is_within, has_signed}
-use Rattle.fabric_audit.proofs.Correct.{correct_first, correct_later}
+use Rattle.fabric_audit.proofs.CorrectOnes.{correct_first, correct_later}
 
 abbrev pub Sets : Type 0
 Sets = List (ReplicaId × List (List ℕ))

@@ -13,15 +13,5 @@ pub are_still-requires-clause-replayable : goal.are_still-requires-clause-replay
 are_still-requires-clause-replayable c =
     subst (All (IsReplayable (roster_of c.args.transcript.now.script))) (sym c.as_slice-traces.ensures) (run_replayable c.args.transcript.now (logs_of c.args.transcript.now c.requires))
 
-pub returns-in_ok-are_still : goal.returns-in_ok-are_still
-returns-in_ok-are_still c =
-    let t = c.args.transcript.now in
-    decided t c.requires c.in_ok-all_taken.field-0 c.in_ok-are_still.field-0
-    (c.in_ok-all_taken.ensures ∙ ap (λ l. all_taken l == all_put t.script l) c.as_slice-traces.ensures) c.if-branch.true
-    (c.in_ok-are_still.ensures ∙ ap (list_all (is_still t.script)) c.as_slice-traces.ensures)
-
-pub returns-else-branch : goal.returns-else-branch
-returns-else-branch c =
-    let t = c.args.transcript.now in
-    undelivered t c.requires c.in_ok-all_taken.field-0
-    (c.in_ok-all_taken.ensures ∙ ap (λ l. all_taken l == all_put t.script l) c.as_slice-traces.ensures) c.if-branch.false
+pub returns : goal.returns
+returns c = ?
