@@ -1,5 +1,5 @@
 -- Whether a run is settled, by how much was taken, by what is still and by how much patience was used.
-use Rattle.std.proofs.Common.{◌≡◌, ℕ, ◌+◌, ◌≤◌, Bool, true, false, not, ◌==◌, ◌⊎◌, inl, inr, count_by, sum_by, refl, sym, ap, ◌∙◌, arith}
+use Rattle.std.proofs.Common.{◌≡◌, ℕ, ◌+◌, ◌<◌, ◌≤◌, Bool, true, false, not, ◌==◌, ◌⊎◌, inl, inr, count_by, sum_by, refl, sym, ap, ◌∙◌, arith}
 use Rattle.std.specs.Prelude.{IsTrue, ◌↔◌}
 use Rattle.std.specs.List.{list_all}
 use Rattle.std.proofs.lemmas.Bool.Decides.{nat_tests}
@@ -133,5 +133,8 @@ pub undelivered : (t : Transcript) → IsRunOf t.script t → (taken : Bool) →
 undelivered t run taken a b = (λ h. absurd_test taken b h, λ h. a ∙ taken_of_settled t run h)
 
 -- nor where patience is left
-pub impatient : (t : Transcript) → (none : Bool) → none ≡ (t.timeouts_left == 0) → none ≡ false → IsTrue none ↔ IsSettled t
-impatient t none a b = (λ h. absurd_test none b h, λ h. a ∙ equal t.timeouts_left 0 h.no_patience)
+pub impatient : (t : Transcript) → 0 < t.timeouts_left → IsTrue false ↔ IsSettled t
+impatient t some = (λ h. absurd cc, λ h. absurd (none_left some h.no_patience))
+  where
+    none_left : {n : ℕ} → 0 < n → n ≡ 0 → ⊥
+    none_left more none = omega (arith, more, none)

@@ -135,9 +135,11 @@ pub(crate) fn is_settled(alloc: Global, transcript: &Transcript) -> Result<bool,
     requires { IsRunOf transcript.now.script transcript.now }
     ensures { IfOk result (λ settled. IsTrue settled ↔ IsSettled transcript.now) }
 {
+    if transcript.timeouts_left > 0 {
+        return Ok(false);
+    }
     let script = &transcript.script;
     let traces = transcript.traces.as_slice();
-    Ok(transcript.timeouts_left == 0
-        && all_taken(alloc, script, traces)?
+    Ok(all_taken(alloc, script, traces)?
         && are_still(alloc, script, traces, !are_tried(transcript)?)?)
 }
