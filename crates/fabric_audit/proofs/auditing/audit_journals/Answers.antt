@@ -1,4 +1,4 @@
-use Rattle.std.proofs.Common.{◌≡◌, ◌+◌, true, List, Ok, Err, sym, subst, ◌∙◌}
+use Rattle.std.proofs.Common.{◌+◌, List, Ok, Err, sym, subst, ◌∙◌}
 use Rattle.std.proofs.lemmas.Result.{err_from_is_err_and}
 use Rattle.run_words.specs.declared.logs.Entry.{Entry}
 use Rattle.run_worlds.specs.Worlds.{correct_of}
