@@ -159,9 +159,9 @@ all_idle script timeouts [] [] o k h = tt
 all_idle script timeouts [] (t ∷ traces) o k h = absurd k
 all_idle script timeouts (m ∷ makers) [] o k h = absurd k
 all_idle script timeouts (m ∷ makers) (t ∷ traces) o k h = (
-    still_is_idle script timeouts m t (o m (inl refl)) k.0 (and_left (is_still script timeouts t) (list_all (is_still script timeouts) traces) h),
-    all_idle script timeouts makers traces (λ n i. o n (inr i)) k.1
-        (and_right (is_still script timeouts t) (list_all (is_still script timeouts) traces) h),
+  still_is_idle script timeouts m t (o m (inl refl)) k.0 (and_left (is_still script timeouts t) (list_all (is_still script timeouts) traces) h),
+  all_idle script timeouts makers traces (λ n i. o n (inr i)) k.1
+      (and_right (is_still script timeouts t) (list_all (is_still script timeouts) traces) h),
 )
 
 pub all_still : (script : Script) (timeouts : Bool) (makers : List Maker) (traces : List Trace) → AreOf script makers → AreEach Kept makers traces

@@ -7,8 +7,8 @@
 mod asking;
 mod auditing;
 mod content_sets;
-mod correct;
 mod cores;
+mod correct;
 mod counting;
 mod effects;
 mod ending;

@@ -73,12 +73,7 @@ fn is_still_at(replica: ReplicaId, core: &Core, leaves: u64, used: u64, timeouts
 }
 
 /// Whether no event would make an entry at the replica that left this trace. Timeout is one of them where it is asked about.
-fn is_still(
-    alloc: Global,
-    script: &Script,
-    trace: &Trace,
-    timeouts: bool,
-) -> Result<bool, NoMemory>
+fn is_still(alloc: Global, script: &Script, trace: &Trace, timeouts: bool) -> Result<bool, NoMemory>
     requires limits { keeps_limits script.now ≡ true }
     requires replayable { IsReplayable (roster_of script.now) trace.now }
     ensures { IfOk result (λ still. still ≡ is_still script.now timeouts trace.now) }
@@ -140,6 +135,8 @@ pub(crate) fn is_settled(alloc: Global, transcript: &Transcript) -> Result<bool,
     }
     let script = &transcript.script;
     let traces = transcript.traces.as_slice();
-    Ok(all_taken(alloc, script, traces)?
-        && are_still(alloc, script, traces, !are_tried(transcript)?)?)
+    Ok(
+        all_taken(alloc, script, traces)?
+            && are_still(alloc, script, traces, !are_tried(transcript)?)?,
+    )
 }
