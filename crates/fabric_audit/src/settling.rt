@@ -1,8 +1,8 @@
 //! Whether anything still moves.
 //!
-//! Nothing moves where each replica has heard or refused whatever was put to it, no event would make an entry at any but a Timeout, and no
-//! patience is left. Where fewer timeouts came to something than patience was used, no Timeout would make one either. A replica never
-//! takes more copies than were put to it, so all are taken where all replicas together took as many as were put.
+//! Nothing moves where each replica has heard or refused whatever was put to it, no event but a Timeout would make an entry at any, and no
+//! patience is left; and where fewer timeouts came to something than patience was used, no Timeout would make an entry either. A replica
+//! never takes more copies than were put to it, so all are taken where all replicas together took as many as were put.
 ghost use Rattle.std.specs.Prelude.{◌≡◌, ◌==◌, ◌&&◌, ◌↔◌, true, nat_le, length, IfOk, IsTrue};
 ghost use Rattle.std.specs.List.{All, list_all};
 ghost use Rattle.fab_base.specs.declared.ids.ReplicaId.{ReplicaId};
