@@ -149,7 +149,6 @@ plain_item m s k (x ∷ rest) each h = go (is_own m.id (signer_of x.message))
 abbrev pub ArePlainEntries : List Entry → Type 0
 ArePlainEntries journal = (e : Entry) → In e journal → IsPlain (event_of e)
 
-
 next_plain : (m : Maker) (earlier : List Entry) → IsWithinLimits m.roster → length m.roster.sizes ≡ 1 → IsTrue (is_replica m.roster m.id)
     → IsMade m earlier → AreSound m earlier → ArePlainEntries earlier → moves m earlier Mover.Emit ≡ true → IsPlainMessage (next_item m earlier).message
 unfolding next_item

@@ -4,8 +4,8 @@ ghost use Rattle.std.specs.List.{All};
 ghost use Rattle.run_words.specs.Keyed.{is_same};
 ghost use Rattle.run_words.specs.Twists.{divides, is_from, names, passes};
 
-use fault_script::Loss;
 use fab_base::ReplicaId;
+use fault_script::Loss;
 
 /// Whether two ids are the same.
 #[tactic(auto, unfolding(crate::specs::Keyed::is_same))]

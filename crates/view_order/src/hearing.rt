@@ -134,9 +134,7 @@ fn change_answer(order: &Order, changes: &[ViewChange], change: &ViewChange) -> 
 fn is_kept(changes: &[ViewChange], view: u64, index: u8) -> bool
     ensures { result ≡ list_any (λ c. nat_eq c.view view && nat_eq c.signer.index index) changes.now }
 {
-    changes
-        .iter()
-        .any(|change| change.view == view && change.signer.index == index)
+    changes.iter().any(|change| change.view == view && change.signer.index == index)
 }
 
 /// A ViewChange of the view was taken, and is the last of these: the replica joins those that ask, and then it may begin the view.

@@ -17,7 +17,8 @@ loop-slot-preserved c =
     let slot = c.loop-slot.slot in
     let first = c.low-first.result + 1 in
     let at : first ≡ w.low + 1 = ap (λ n. n + 1) c.low-first.ensures in
-    let upto : slot < first + length w.slots = omega (arith, c.loop-slot-test.true, c.width.ensures) in
-    (later_one _ _ _ _ c.loop-slot.invariant.0 (holds_next w c.args.executed first slot at c.loop-slot.invariant.1 upto) (sym c.holds.ensures ∙ c.if-holds.false),
+    let upto : slot < first + length w.slots = omega (arith, c.loop-slot-test.true, c.width.ensures) in (
+      later_one _ _ _ _ c.loop-slot.invariant.0 (holds_next w c.args.executed first slot at c.loop-slot.invariant.1 upto) (sym c.holds.ensures ∙ c.if-holds.false),
       omega (arith, c.loop-slot.invariant.1),
-      omega (arith, upto))
+      omega (arith, upto),
+    )
