@@ -25,6 +25,7 @@ fn act_of(mover: Mover) -> Act
         Mover::Emit => Act::Emit,
         Mover::Execute => Act::Execute,
         Mover::Checkpoint => Act::Checkpoint,
+        Mover::Timeout => Act::Timeout,
     }
 }
 
