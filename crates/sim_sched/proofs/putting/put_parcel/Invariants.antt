@@ -7,4 +7,4 @@ use Rattle.sim_sched.proofs.putting.put_parcel.Given as goal
 abbrev pub invariant-loop : goal.invariant-loop
 invariant-loop g l =
     map (seen g.P.Party.made g.P.Party.journal g.P.Party.shut) l.seats
-    ≡ map (receive (replicate l.counter (copy_of l.from l.parcel))) (map (seen g.P.Party.made g.P.Party.journal g.P.Party.shut) l.initial.seats)
+    ≡ map (receive (replicate l.counter (copy_of l.fn.from l.parcel))) (map (seen g.P.Party.made g.P.Party.journal g.P.Party.shut) l.initial.seats)
