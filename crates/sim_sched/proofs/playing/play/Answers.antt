@@ -1,7 +1,12 @@
 use Rattle.std.proofs.Common.{◌<◌, map, arith, refl}
 use Rattle.sim_sched.specs.Seats.{seen}
-use Rattle.sim_sched.proofs.Turns.{play_spent, play_entered, play_cut, play_settled, play_on, not_true, not_false}
+use Rattle.sim_sched.proofs.Turns.{plays_first, play_spent, play_entered, play_cut, play_settled, play_on, not_true, not_false}
 use Rattle.sim_sched.proofs.playing.play.Goals as goal
+
+pub loop-entries-init : goal.loop-entries-init
+loop-entries-init g c =
+    plays_first _ _ _ c.args.turns (map (seen g.P.Party.made g.P.Party.journal g.P.Party.shut) c.args.seats.now) c.args.generator.now
+    c.args.moments.now c.requires.ready
 
 pub loop-entries-preserved-then-branch : goal.loop-entries-preserved-then-branch
 loop-entries-preserved-then-branch g c =
