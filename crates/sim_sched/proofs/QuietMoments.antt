@@ -11,7 +11,7 @@ use Rattle.run_words.specs.Runs.{Rules, Run, Phase, journal_in, give, again, ove
 use Rattle.rand_chacha.specs.ChaCha.{ChaCha}
 use Rattle.sim_sched.specs.Seats.{SeatView, seat_in, numbers_of}
 use Rattle.sim_sched.specs.Putting.{given_at}
-use Rattle.sim_sched.specs.Simulating.{AreRules, generator_at, IsHeld, IsReady}
+use Rattle.sim_sched.specs.Simulating.{AreRules, generator_at, IsReady}
 use Rattle.sim_sched.specs.Playing.{IsReached, IsIn, IsEnded, with_moment, NudgedBy, Nudged, QuietedBy, Quieted}
 use Rattle.sim_sched.specs.declared.nudging.Nudges.{Nudges}
 use Rattle.sim_sched.proofs.Picking.{long_map}

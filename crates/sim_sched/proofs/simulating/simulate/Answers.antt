@@ -1,5 +1,5 @@
 use Rattle.run_words.specs.Runs.{IsSchedule}
-use Rattle.run_words.proofs.Keeping.{run_law}
+use Rattle.run_words.proofs.Ending.{run_law}
 use Rattle.std.proofs.Common.{◌≡◌, ◌∙◌, ap, sym, subst, map, length, arith, refl}
 use Rattle.run_words.specs.declared.logs.Transcript.{Transcript}
 use Rattle.sim_sched.specs.Seats.{seen, receive, AllOpen}
