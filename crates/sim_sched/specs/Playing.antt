@@ -23,7 +23,8 @@ EnteredBy r key entries moments false now h = IsIn r key (Phase.Nudging (numbers
 -- picking for any run that the seats stand at, until it has an entry more or no step is left
 abbrev pub Entered : List SeatView → ChaCha → Bool → List SeatView → ChaCha → Type 0
 Entered views g entered now h =
-    (r : Rules) (key : List ℕ) (turns entries : ℕ) (moments : List Moment) → AreRules r key turns → entries < turns → IsIn r key Phase.Pick views g entries moments → EnteredBy r key entries moments entered now h
+    (r : Rules) (key : List ℕ) (turns entries : ℕ) (moments : List Moment) → AreRules r key turns → entries < turns
+    → IsIn r key Phase.Pick views g entries moments → EnteredBy r key entries moments entered now h
 
 -- a run that has ended, with its quiet moments: whether it was cut off
 pub record IsEnded (r : Rules) (spent : Bool) (views : List SeatView) (moments : List Moment) : Type 0 where
@@ -44,7 +45,8 @@ NudgedBy r key at moments false told now g = IsIn r key (Phase.Nudging at [] tol
 
 abbrev pub Nudged : List SeatView → ℕ → ℕ → Nudges → List SeatView → Type 0
 Nudged views entries turns told now =
-    (r : Rules) (key at : List ℕ) (g : ChaCha) (moments : List Moment) → AreRules r key turns → IsIn r key (Phase.Nudging at r.makers false) views g entries moments → NudgedBy r key at moments told.spent told now g
+    (r : Rules) (key at : List ℕ) (g : ChaCha) (moments : List Moment) → AreRules r key turns
+    → IsIn r key (Phase.Nudging at r.makers false) views g entries moments → NudgedBy r key at moments told.spent told now g
 
 -- what comes of a quiet moment: the run is cut off; or it stands at a choice again, where a nudge moved a replica; or else it has ended
 abbrev pub QuietedBy : Rules → List ℕ → Nudges → Bool → Bool → List SeatView → ChaCha → List Moment → Type 0
@@ -54,7 +56,9 @@ QuietedBy r key told false false now g moments = IsEnded r false now moments
 
 abbrev pub Quieted : List SeatView → ℕ → ℕ → List Moment → Nudges → List SeatView → List Moment → Type 0
 Quieted views entries turns moments told now later =
-    (r : Rules) (key : List ℕ) (g : ChaCha) → AreRules r key turns → IsIn r key (Phase.Nudging (numbers_of views) r.makers false) views g entries moments → QuietedBy r key told told.spent told.moved now g later
+    (r : Rules) (key : List ℕ) (g : ChaCha) → AreRules r key turns
+    → IsIn r key (Phase.Nudging (numbers_of views) r.makers false) views g entries moments
+    → QuietedBy r key told told.spent told.moved now g later
 
 abbrev pub Played : ℕ → List SeatView → ChaCha → List Moment → Bool → List SeatView → List Moment → Type 0
 Played turns views g moments spent now later =

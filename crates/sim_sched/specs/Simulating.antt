@@ -67,4 +67,5 @@ PickedTo r key run views g entries moments (Some grew) now h = IsAt r key (next 
 -- a choice of any run that the seats stand at
 abbrev pub Picked : List SeatView → ChaCha → Option Bool → List SeatView → ChaCha → Type 0
 Picked views g told now h =
-    (r : Rules) (key : List ℕ) (run : Run) (entries : ℕ) (moments : List Moment) → AreRules r key r.turns → IsAt r key run views g entries moments → is_spent r run ≡ false → PickedTo r key run views g entries moments told now h
+    (r : Rules) (key : List ℕ) (run : Run) (entries : ℕ) (moments : List Moment) → AreRules r key r.turns
+    → IsAt r key run views g entries moments → is_spent r run ≡ false → PickedTo r key run views g entries moments told now h

@@ -3,9 +3,9 @@
 //!
 //! Before each event the run is over where the journals together have as many entries as the script allows. Else the steps that can be
 //! made are counted: for each replica by id one for each copy on its way, in the order put, then a batch, a sending, an executing and
-//! a Checkpoint, each where it would make an entry. The generator's next word picks one of them; it is found by walking the seats, and no list of steps
-//! is ever made. Where there is none, it is a quiet moment, of which the number of entries of each journal is noted: each replica by id is
-//! nudged; where no nudge moves one, the run has ended. Timeouts and patience are no part of a run yet.
+//! a Checkpoint, each where it would make an entry. The generator's next word picks one of them; it is found by walking the seats, and no
+//! list of steps is ever made. Where there is none, it is a quiet moment: how many entries each journal has is noted, and each replica by
+//! id is nudged; where no nudge moves one, the run has ended. Timeouts and patience are no part of a run yet.
 //!
 //! A parcel's bytes move from a party's answer to the copy on its way, and with it to the hearing; they are copied only where a parcel
 //! passes more than once. A copy that a replica refuses is noted by its number, and is let go.
