@@ -1,12 +1,10 @@
 -- Parcels that are numbered by counts are those that are put after as many.
-use Rattle.std.proofs.Common.{◌≡◌, ℕ, ◌+◌, Bool, true, false, cond, List, [], ◌∷◌, ◌++◌, length, Option, Some, None, refl, sym, ap, subst, ◌∙◌, zero-add, add-zero, append-nil, append_assoc}
+use Rattle.std.proofs.Common.{◌≡◌, ℕ, ◌+◌, Bool, true, false, cond, List, [], ◌∷◌, ◌++◌, length, Option, None, refl, sym, ap, subst, ◌∙◌, zero-add, add-zero, append-nil, append_assoc}
 use Rattle.std.proofs.lemmas.List.Sums.{sum_by_push}
 use Rattle.fab_base.specs.declared.ids.ReplicaId.{ReplicaId}
 use Rattle.fab_base.specs.declared.messages.Message.{Message}
 use Rattle.fab_base.specs.declared.answers.Item.{Item}
 use Rattle.fab_rules.specs.Spelling.{spelling_of}
-use Rattle.fault_script.specs.declared.twists.Fault.{Fault}
-use Rattle.fault_script.specs.declared.twists.Loss.{Loss}
 use Rattle.run_words.specs.Keyed.{is_same}
 use Rattle.run_words.specs.Twists.{Copy, passes, is_proposal, is_share, copy_as, copies_from, sent_to, shares_to, shares_of, parcel_of, put}
 use Rattle.run_words.specs.Journal.{Maker, Walk, null_beside, copies, added}
@@ -116,8 +114,8 @@ unfolding added copies
 sent_plainly m w item h =
     let x = item.message in
     let beside = null_beside m (length w.signed) x in
-    ap (λ (l : List Loss). put m.id l m.fault w.clock w.parcels w.shares (copies_from m.fault (is_proposal m.id x) beside x item.to)) h.lossless
-    ∙ ap (λ (f : Option Fault). put m.id [] f w.clock w.parcels w.shares (copies_from f (is_proposal m.id x) beside x item.to)) h.correct
+    ap (λ l. put m.id l m.fault w.clock w.parcels w.shares (copies_from m.fault (is_proposal m.id x) beside x item.to)) h.lossless
+    ∙ ap (λ f. put m.id [] f w.clock w.parcels w.shares (copies_from f (is_proposal m.id x) beside x item.to)) h.correct
     ∙ ap (put m.id [] None w.clock w.parcels w.shares) (plain_copies (is_proposal m.id x) beside x item.to)
 
 -- of an item that is sent plainly, a numbered one for each receiver
