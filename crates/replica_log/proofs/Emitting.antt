@@ -197,8 +197,8 @@ module _ (m : Maker) (journal : List Entry) (now : ℕ) (earlier : List (List �
   abbrev o : Option Item
   o = first (state m journal)
 
-  waits_still : Waits o
-  waits_still = subst (λ (c : Machine). Waits (first c.state)) live waits
+  waits_there : Waits o
+  waits_there = subst (λ (c : Machine). Waits (first c.state)) live waits
 
   number : made ≡ length (signed_of m journal)
   number = kept.used ∙ ap length kept.signed_is
@@ -222,7 +222,7 @@ module _ (m : Maker) (journal : List Entry) (now : ℕ) (earlier : List (List �
       ap (λ (c : Machine). receivers_in (first c.state)) live ∙ sym spelled.1 ∙ ap (λ (i : Item). i.to) same in
       record {
         kept = kept;
-        moved = moves_first m journal waits_still (subst (λ (n : ℕ). n < m.leaves) number left);
+        moved = moves_first m journal waits_there (subst (λ (n : ℕ). n < m.leaves) number left);
         item = same;
         signs = ap (λ (i : Item). stated_by m (Entry.Sent i)) (sym same) ∙ sent_signs m sig o mine ∙ ap (λ (c : List ℕ). c ∷ []) (sym content_at);
         parcels =
@@ -238,16 +238,16 @@ module _ (m : Maker) (journal : List Entry) (now : ℕ) (earlier : List (List �
   passed_ready sig none another whole =
       let other : needs_leaf m.id o ≡ false = ap (λ (c : Machine). needs_leaf m.id (first c.state)) (sym live) ∙ another in
       let same : sent_in m.id sig o ≡ next_item m journal = passed_item m (length (signed_of m journal)) sig o other ∙ sym (next_is m journal) in
-      let spelled = passed_spelling m.id sig o waits_still other in
+      let spelled = passed_spelling m.id sig o waits_there other in
       let bytes : bytes_in (first core.state) ≡ spelling_of (next_item m journal).message =
       ap (λ (c : Machine). bytes_in (first c.state)) live ∙ sym spelled.0 ∙ ap (λ (i : Item). spelling_of i.message) same in
       let receivers : receivers_in (first core.state) ≡ (next_item m journal).to =
       ap (λ (c : Machine). receivers_in (first c.state)) live ∙ sym spelled.1 ∙ ap (λ (i : Item). i.to) same in
       record {
         kept = kept;
-        moved = moves_passed m journal waits_still other;
+        moved = moves_passed m journal waits_there other;
         item = same;
-        signs = ap (λ (i : Item). stated_by m (Entry.Sent i)) (sym same) ∙ passed_signs m sig o waits_still other;
+        signs = ap (λ (i : Item). stated_by m (Entry.Sent i)) (sym same) ∙ passed_signs m sig o waits_there other;
         parcels =
             ap (λ (g : List ℕ). sent_with g draft) none ∙ whole.parcels
             ∙ ap (λ (b : List ℕ). numbered counts now b (receivers_in (first core.state))) bytes

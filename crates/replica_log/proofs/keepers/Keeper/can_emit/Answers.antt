@@ -14,5 +14,6 @@ pub returns-else-moves : goal.returns-else-moves
 returns-else-moves g c =
     let k = c.args.self.now in
     let m = maker_of g.S.Signer.limit g.S.Signer.gives k in
-    ap (λ (b : Bool). b && not c.is_blocked-blocked.result) (sym c.if-moves.false ∙ c.moves.ensures)
+    c.if-moves.false
+    ∙ ap (λ (b : Bool). b && not c.is_blocked-blocked.result) (sym c.if-moves.false ∙ c.moves.ensures)
     ∙ emit_moves m k.journal.items k.core c.is_blocked-blocked.result c.requires.live c.is_blocked-blocked.ensures
