@@ -53,11 +53,8 @@ impl Walk {
         match entry {
             Entry::Heard(origin, _) => self.clock = ticked(self.clock, *origin)?,
             Entry::Sent(item) => self.put(alloc, item)?,
-            Entry::Proposed
-            | Entry::Nudged
-            | Entry::Executed
-            | Entry::Marked
-            | Entry::TimedOut => {}
+            Entry::Proposed | Entry::Nudged | Entry::Executed | Entry::Marked | Entry::TimedOut =>
+                {}
         }
         Ok(())
     }

@@ -206,14 +206,15 @@ module _ (m : Maker) (journal : List Entry) (now : ℕ) (earlier : List (List �
   -- of an item that the replica signs
   pub signed_ready : (content sig : List ℕ) (long : ℕ) → needs_leaf m.id (first core.state) ≡ true → made < m.leaves
       → content ≡ content_in core.me (first core.state) → ArePacked counts now content (receivers_in (first core.state)) long draft
-      → sig ≡ m.signature made content → length sig ≡ long
+      → (given : List ℕ) → given ≡ content → sig ≡ m.signature made given → length sig ≡ long
       → IsReady m journal now earlier counts made (content ∷ []) draft sig
-  signed_ready content sig long own left content_is packed sig_is long_is =
+  signed_ready content sig long own left content_is packed given given_is sig_is long_is =
       let mine : needs_leaf m.id o ≡ true = ap (λ (c : Machine). needs_leaf m.id (first c.state)) (sym live) ∙ own in
       let content_at : content ≡ content_in m.id o = content_is ∙ ap (λ (c : Machine). content_in c.me (first c.state)) live in
       let same : sent_in m.id sig o ≡ next_item m journal =
       ap (λ (g : List ℕ). sent_in m.id g o)
-      (sig_is ∙ ap (λ (n : ℕ). m.signature n content) number ∙ ap (m.signature (length (signed_of m journal))) content_at)
+      (sig_is ∙ ap (m.signature made) given_is ∙ ap (λ (n : ℕ). m.signature n content) number
+      ∙ ap (m.signature (length (signed_of m journal))) content_at)
       ∙ item_sent m (length (signed_of m journal)) o ∙ sym (next_is m journal) in
       let spelled = sent_spelling m.id sig o mine in
       let bytes : signed content sig ≡ spelling_of (next_item m journal).message =

@@ -1,4 +1,4 @@
-use Rattle.std.proofs.Common.{[], ◌∷◌, refl, ap, ◌∙◌}
+use Rattle.std.proofs.Common.{[], ◌∷◌, refl, ◌∙◌}
 use Rattle.replica_log.specs.Keeping.{maker_of}
 use Rattle.lms_tree.specs.Signatures.{tree_signature_len}
 use Rattle.replica_log.proofs.Emitting.{IsReady, signed_ready, parcels_are, entered}
@@ -12,8 +12,8 @@ ready g c =
     let k = c.args.self.now in
     signed_ready (maker_of g.S.Signer.limit g.S.Signer.gives k) k.journal.items k.clock k.signed.items k.numbers (g.S.Signer.made k.signer) k.core
     c.in_ok-out.out.parcels c.requires.kept c.requires.live c.requires.waits c.in_ok-out.out.content c.in-Ok.sig
-    (tree_signature_len (g.S.Signer.key k.signer).ots (g.S.Signer.key k.signer).height) c.requires.own c.requires.unspent c.in_ok-out.ensures.content c.in_ok-out.ensures.parcels
-    (c.in-Ok.ensures.signed.0 ∙ ap (g.S.Signer.gives k.signer (g.S.Signer.made k.signer)) c.as_slice.ensures) c.in-Ok.ensures.len
+    (tree_signature_len (g.S.Signer.key k.signer).ots (g.S.Signer.key k.signer).height) c.requires.own c.requires.unspent
+    c.in_ok-out.ensures.content c.in_ok-out.ensures.parcels c.as_slice.result.now c.as_slice.ensures c.in-Ok.ensures.signed.0 c.in-Ok.ensures.len
 
 pub returns-in-Ok-clause-parcels : goal.returns-in-Ok-clause-parcels
 returns-in-Ok-clause-parcels g c =
