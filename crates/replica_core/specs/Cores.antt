@@ -50,6 +50,7 @@ event_of Event.Nudge = machine.Event.Nudge
 event_of (Event.Emit sig) = machine.Event.Emit sig
 event_of Event.Execute = machine.Event.Execute
 event_of Event.Checkpoint = machine.Event.Checkpoint
+event_of Event.Timeout = machine.Event.Timeout
 
 -- what is heard is shaped for these members
 abbrev pub IsFor : Roster → Event → Type 0
@@ -67,6 +68,7 @@ event_by Mover.Nudge = machine.Event.Nudge
 event_by Mover.Emit = machine.Event.Emit []
 event_by Mover.Execute = machine.Event.Execute
 event_by Mover.Checkpoint = machine.Event.Checkpoint
+event_by Mover.Timeout = machine.Event.Timeout
 
 -- whether an event would make an entry in the journal
 abbrev pub moves_by : Machine → Mover → Bool
