@@ -1,23 +1,36 @@
 -- What the calls inside see: the state without the mark of a refusal in the middle of a step.
-use Rattle.std.specs.Prelude.{◌≡◌, Bool, length}
+use Rattle.std.specs.Prelude.{◌≡◌, Bool, List, length}
 use Rattle.fab_base.specs.Limits.{Roster}
 use Rattle.fab_base.specs.declared.ids.ReplicaId.{ReplicaId}
+use Rattle.fab_base.specs.declared.answers.Item.{Item}
 use Rattle.fab_machine.specs.State.{Replica}
-use Rattle.local_order.specs.Ordering.{Ordering}
+use Rattle.view_order.specs.Views.{Views}
 use Rattle.round_exec.specs.Book.{Book}
+use Rattle.cluster_talk.specs.Talking.{Talking}
 
 pub record Assembly : Type 0 where
   pub roster : Roster
   pub me : ReplicaId
   pub state : Replica
-  -- whether local ordering was refused memory in the middle of a call
+  -- whether ordering was refused memory in the middle of a call
   pub stuck : Bool
 
+-- what is seen of the parts
+abbrev pub seen : Views → Book → Talking → List Item → Assembly
+seen o b t waiting = record {
+  roster = o.roster;
+  me = o.me;
+  state = record { local = o.local; changes = o.changes; rounds = b.rounds; pleading = t.pleading; askers = t.askers; outbox = waiting };
+  stuck = o.shut;
+}
+
 -- the parts are of one replica, and of one fabric
-pub record AreParts (me : ReplicaId) (o : Ordering) (b : Book) : Type 0 where
+pub record AreParts (me : ReplicaId) (o : Views) (b : Book) (t : Talking) : Type 0 where
   pub me_is : me ≡ o.me
   pub clusters : b.clusters ≡ length o.roster.sizes
   pub clients : b.clients ≡ length o.roster.homes
+  pub talks_in : t.roster ≡ o.roster
+  pub talks_as : t.me ≡ o.me
 
 -- the same replica, with this state
 abbrev pub with_state : Assembly → Replica → Assembly
