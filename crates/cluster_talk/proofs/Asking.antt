@@ -32,8 +32,8 @@ one_more_asks r askers p Plight.Start old signer a = go (has_asker askers (recor
           | inr (inl e) ↦ subst (λ x. IsTrue (is_cluster r x.cluster)) e (and_left (is_cluster r p.signer.cluster) _ signer)
           | inr (inr none) ↦ absurd none
         ]
-one_more_asks r askers p Plight.Kept old signer = old
-one_more_asks r askers p Plight.Twice old signer = old
-one_more_asks r askers p (Plight.Past at) old signer = old
-one_more_asks r askers p Plight.Join old signer = old
-one_more_asks r askers p (Plight.Send joins) old signer = old
+one_more_asks r askers p Plight.Kept old signer a = old a
+one_more_asks r askers p Plight.Twice old signer a = old a
+one_more_asks r askers p (Plight.Past at) old signer a = old a
+one_more_asks r askers p Plight.Join old signer a = old a
+one_more_asks r askers p (Plight.Send joins) old signer a = old a

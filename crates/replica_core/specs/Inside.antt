@@ -2,8 +2,11 @@
 use Rattle.std.specs.Prelude.{◌≡◌, Bool, List, length}
 use Rattle.fab_base.specs.Limits.{Roster}
 use Rattle.fab_base.specs.declared.ids.ReplicaId.{ReplicaId}
+use Rattle.fab_base.specs.declared.messages.Message.{Message}
 use Rattle.fab_base.specs.declared.answers.Item.{Item}
-use Rattle.fab_machine.specs.State.{Replica}
+use Rattle.fab_machine.specs.State.{Replica, Stepped}
+use Rattle.fab_machine.specs.Attending.{attend, changes_after}
+use Rattle.fab_machine.specs.Joining.{after_told}
 use Rattle.view_order.specs.Views.{Views}
 use Rattle.round_exec.specs.Book.{Book}
 use Rattle.cluster_talk.specs.Talking.{Talking}
@@ -35,6 +38,10 @@ pub record AreParts (me : ReplicaId) (o : Views) (b : Book) (t : Talking) : Type
 -- the same replica, with this state
 abbrev pub with_state : Assembly → Replica → Assembly
 with_state o state = record { roster = o.roster; me = o.me; state = state; stuck = o.stuck }
+
+-- a message that is for ordering in the own cluster is heard, and what that brings about is taken over
+abbrev pub attend_step : Roster → ReplicaId → Replica → Message → Stepped
+attend_step r me s m = after_told r me (record s { changes = changes_after me s.local s.changes m }) (attend r me s.local s.changes m)
 
 -- the same replica of the same members, whatever became of its state
 abbrev pub IsSame : Assembly → Assembly → Type 0

@@ -1,11 +1,10 @@
 //! Pleas (GeoBFT, remote view change): one that is heard, and one that is said where a certificate of another cluster is missing.
-ghost use Rattle.std.specs.Prelude.{◌≡◌, length, IfOk, OnOk, IsTrue};
+ghost use Rattle.std.specs.Prelude.{◌≡◌, ◌+◌, length, IfOk, OnOk, IsTrue};
 ghost use Rattle.fab_base.specs.declared.messages.Message.{Message};
-ghost use Rattle.fab_base.specs.Limits.{IsWithinLimits};
-ghost use Rattle.fab_base.specs.Roster.{is_replica};
+ghost use Rattle.fab_base.specs.Roster.{is_cluster};
 ghost use Rattle.fab_rules.specs.Shape.{IsShaped};
 ghost use Rattle.fab_machine.specs.Joining.{after_told};
-ghost use Rattle.fab_machine.specs.Pleading.{hear_drvc, drvc_counted, hear_rvc, ask_next, plead_by};
+ghost use Rattle.fab_machine.specs.Pleading.{hear_drvc, drvc_counted, hear_rvc, ask_next, plead, plead_by};
 ghost use Rattle.fab_machine.specs.ReplicaState.{IsReplicaState};
 ghost use Rattle.fab_machine.specs.Rounds.{next_round};
 ghost use Rattle.fab_machine.specs.Step.{makes_entry};
@@ -98,6 +97,33 @@ impl Parts {
         match self.rounds.missing() {
             Some(cluster) => self.plead_for(cluster),
             None => Ok(Answer::Calm),
+        }
+    }
+
+    /// Says a Drvc for the certificate of this cluster in the next round, where none of this target, round and count was said.
+    fn plead_for(&mut self, cluster: u8) -> Result<Answer, NoMemory>
+        requires { IsTrue (is_cluster self.old.roster cluster) }
+        ensures answer { IfOk result (λ answer. answer ≡ (plead self.old.roster self.old.me self.old.state cluster (self.old.state.rounds.executed + 1)).answer) }
+        ensures state { OnOk result (self.new ≡ with_state self.old (plead self.old.roster self.old.me self.old.state cluster (self.old.state.rounds.executed + 1)).state) }
+        ensures same { IsSame self.old self.new }
+    {
+        let round = self.rounds.next();
+        match self.talk.plead(cluster, round)? {
+            Some(item) => {
+                self.outbox.push_back(item)?;
+                Ok(Answer::Missed { cluster })
+            }
+            None => Ok(Answer::Calm),
+        }
+    }
+
+    /// Whether `plead` would say one. Takes no memory.
+    pub(crate) fn would_plead(&self) -> bool
+        ensures { result ≡ makes_entry (plead_by self.now.roster self.now.me self.now.state (next_round (length self.now.roster.sizes) self.now.state.rounds)).answer }
+    {
+        match self.rounds.missing() {
+            Some(cluster) => self.talk.would_plead(cluster, self.rounds.next()),
+            None => false,
         }
     }
 }
