@@ -2,4 +2,5 @@ pub mod Outs
 pub mod Machines
 mod Noting
 mod Within
-mod Calm
+mod Late
+mod Missing

@@ -1,5 +1,5 @@
 -- What the calls inside see: the state without the mark of a refusal in the middle of a step.
-use Rattle.std.specs.Prelude.{◌≡◌, Bool, List, length}
+use Rattle.std.specs.Prelude.{◌≡◌, Bool, true, false, List, length}
 use Rattle.fab_base.specs.Limits.{Roster}
 use Rattle.fab_base.specs.declared.ids.ReplicaId.{ReplicaId}
 use Rattle.fab_base.specs.declared.messages.Message.{Message}
@@ -7,6 +7,7 @@ use Rattle.fab_base.specs.declared.answers.Item.{Item}
 use Rattle.fab_machine.specs.State.{Replica, Stepped}
 use Rattle.fab_machine.specs.Attending.{attend, changes_after}
 use Rattle.fab_machine.specs.Joining.{after_told}
+use Rattle.fab_machine.specs.Pleading.{ask_next}
 use Rattle.view_order.specs.Views.{Views}
 use Rattle.round_exec.specs.Book.{Book}
 use Rattle.cluster_talk.specs.Talking.{Talking}
@@ -42,6 +43,11 @@ with_state o state = record { roster = o.roster; me = o.me; state = state; stuck
 -- a message that is for ordering in the own cluster is heard, and what that brings about is taken over
 abbrev pub attend_step : Roster → ReplicaId → Replica → Message → Stepped
 attend_step r me s m = after_told r me (record s { changes = changes_after me s.local s.changes m }) (attend r me s.local s.changes m)
+
+-- where enough Rvcs were heard, the next view is asked for
+abbrev pub started : Roster → ReplicaId → Replica → Bool → Replica
+started r me s true = (after_told r me s (ask_next r me s.local s.local.changing)).state
+started r me s false = s
 
 -- the same replica of the same members, whatever became of its state
 abbrev pub IsSame : Assembly → Assembly → Type 0

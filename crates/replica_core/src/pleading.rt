@@ -4,12 +4,12 @@ ghost use Rattle.fab_base.specs.declared.messages.Message.{Message};
 ghost use Rattle.fab_base.specs.Roster.{is_cluster};
 ghost use Rattle.fab_rules.specs.Shape.{IsShaped};
 ghost use Rattle.fab_machine.specs.Joining.{after_told};
-ghost use Rattle.fab_machine.specs.Pleading.{hear_drvc, drvc_counted, hear_rvc, ask_next, plead, plead_by};
+ghost use Rattle.fab_machine.specs.Pleading.{hear_drvc, drvc_counted, hear_rvc, rvc_counted, ask_next, plead, plead_by};
 ghost use Rattle.fab_machine.specs.ReplicaState.{IsReplicaState};
 ghost use Rattle.fab_machine.specs.Rounds.{next_round};
 ghost use Rattle.fab_machine.specs.Step.{makes_entry};
-ghost use Rattle.remote_view.specs.Pleading.{drvc_of, drvc_plight};
-ghost use Rattle.replica_core.specs.Inside.{IsSame, with_state};
+ghost use Rattle.remote_view.specs.Pleading.{drvc_of, drvc_plight, rvc_of, rvc_plight};
+ghost use Rattle.replica_core.specs.Inside.{IsSame, started, with_state};
 
 use crate::NoMemory;
 use crate::parts::Parts;
@@ -65,12 +65,30 @@ impl Parts {
             drop(plea);
             return Ok(Answer::Heard(Take::Stray));
         }
+        self.count_rvc(plea)
+    }
+
+    /// Counts an Rvc to the own cluster.
+    fn count_rvc(&mut self, plea: Plea) -> Result<Answer, NoMemory>
+        requires shaped { IsShaped self.old.roster (Message.Rvc plea) }
+        requires whole { IsReplicaState self.old.roster self.old.me self.old.state }
+        requires own { plea.target ≡ self.old.me.cluster }
+        ensures answer { IfOk result (λ answer. answer ≡ (rvc_counted self.old.roster self.old.me self.old.state plea (rvc_plight self.old.state.pleading (rvc_of plea))).answer) }
+        ensures state { OnOk result (self.new ≡ with_state self.old (rvc_counted self.old.roster self.old.me self.old.state plea (rvc_plight self.old.state.pleading (rvc_of plea))).state) }
+        ensures same { IsSame self.old self.new }
+    {
         let (how, items, starts) = self.talk.hear_rvc(plea)?;
         put_all(&mut self.outbox, items)?;
-        if starts {
-            self.ask_next()?;
-        }
+        self.start(starts)?;
         Ok(Answer::Heard(how))
+    }
+
+    /// Where enough Rvcs were heard, the next view is asked for.
+    fn start(&mut self, starts: bool) -> Result<(), NoMemory>
+        ensures state { OnOk result (self.new ≡ with_state self.old (started self.old.roster self.old.me self.old.state starts)) }
+        ensures same { IsSame self.old self.new }
+    {
+        if starts { self.ask_next() } else { Ok(()) }
     }
 
     /// The next view is asked for, where none is asked for yet and there is one. The answer isn't told.

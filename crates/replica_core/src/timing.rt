@@ -1,6 +1,8 @@
 //! Timeout: the replica waited long enough.
-ghost use Rattle.std.specs.Prelude.{◌≡◌, ◌+◌, false, IfOk, OnOk};
-ghost use Rattle.fab_machine.specs.Pleading.{own_is_kept, is_calm, timeout_step};
+ghost use Rattle.std.specs.Prelude.{◌≡◌, ◌+◌, true, false, IfOk, OnOk, IsTrue};
+ghost use Rattle.fab_base.specs.Limits.{IsWithinLimits};
+ghost use Rattle.fab_base.specs.Roster.{is_replica};
+ghost use Rattle.fab_machine.specs.Pleading.{own_is_kept, timeout_step};
 ghost use Rattle.fab_machine.specs.ReplicaState.{IsReplicaState};
 ghost use Rattle.fab_machine.specs.Rounds.{knows_others};
 ghost use Rattle.fab_machine.specs.Step.{makes_entry};
@@ -15,19 +17,48 @@ impl Parts {
     /// Asks for the next view, where something is due that didn't come and the own cluster's certificate of the next round isn't kept; where
     /// that is kept, and another cluster's is missing, that is reported (PBFT, section 4.4, and GeoBFT, remote view change).
     pub(crate) fn time_out(&mut self) -> Result<Answer, NoMemory>
+        requires limits { IsWithinLimits self.old.roster }
+        requires member { IsTrue (is_replica self.old.roster self.old.me) }
+        requires whole { IsReplicaState self.old.roster self.old.me self.old.state }
         ensures answer { IfOk result (λ answer. answer ≡ (timeout_step self.old.roster self.old.me self.old.state).answer) }
         ensures state { OnOk result (self.new ≡ with_state self.old (timeout_step self.old.roster self.old.me self.old.state).state) }
         ensures same { IsSame self.old self.new }
     {
-        let own = self.own_is_kept();
-        let known = self.knows_next();
-        let told = self.order.timeout(own, known)?;
-        if own && is_calm(&told.answer) {
-            drop(told);
-            self.plead()
+        if self.own_is_kept() {
+            self.report()
         } else {
-            self.follow(told)
+            self.ask()
         }
+    }
+
+    /// The own cluster did its part of the next round: a certificate of another cluster may be missing. Ordering asks for no view then.
+    fn report(&mut self) -> Result<Answer, NoMemory>
+        requires whole { IsReplicaState self.old.roster self.old.me self.old.state }
+        requires own { own_is_kept self.old.me self.old.state.rounds ≡ true }
+        ensures answer { IfOk result (λ answer. answer ≡ (timeout_step self.old.roster self.old.me self.old.state).answer) }
+        ensures state { OnOk result (self.new ≡ with_state self.old (timeout_step self.old.roster self.old.me self.old.state).state) }
+        ensures same { IsSame self.old self.new }
+    {
+        let low = self.order.low();
+        if self.rounds.next() <= low {
+            return Ok(Answer::Behind { low });
+        }
+        self.plead()
+    }
+
+    /// The own cluster's certificate of the next round isn't kept: ordering may ask for the next view.
+    fn ask(&mut self) -> Result<Answer, NoMemory>
+        requires limits { IsWithinLimits self.old.roster }
+        requires member { IsTrue (is_replica self.old.roster self.old.me) }
+        requires whole { IsReplicaState self.old.roster self.old.me self.old.state }
+        requires own { own_is_kept self.old.me self.old.state.rounds ≡ false }
+        ensures answer { IfOk result (λ answer. answer ≡ (timeout_step self.old.roster self.old.me self.old.state).answer) }
+        ensures state { OnOk result (self.new ≡ with_state self.old (timeout_step self.old.roster self.old.me self.old.state).state) }
+        ensures same { IsSame self.old self.new }
+    {
+        let known = self.knows_next();
+        let told = self.order.timeout(false, known)?;
+        self.follow(told)
     }
 
     /// Whether `time_out` would ask for a view or report a certificate. Takes no memory.
@@ -60,11 +91,4 @@ impl Parts {
         self.rounds
             .knows_others(self.me.cluster, self.rounds.next())
     }
-}
-
-/// Whether nothing is amiss.
-fn is_calm(answer: &Answer) -> bool
-    ensures { result ≡ is_calm answer.now }
-{
-    matches!(answer, Answer::Calm)
 }

@@ -1,0 +1,44 @@
+-- What follows from pleas: of which cluster a certificate may be missing, and what an Rvc brings about.
+use Rattle.std.proofs.Common.{◌≡◌, ℕ, ◌≤◌, List, ◌++◌, length, nat_le, Option, Some, Result, Ok, Err, refl, sym, subst}
+use Rattle.std.specs.Bool.{IsTrue}
+use Rattle.fab_base.specs.Limits.{Roster}
+use Rattle.fab_base.specs.Roster.{is_cluster}
+use Rattle.fab_base.specs.declared.ids.ReplicaId.{ReplicaId}
+use Rattle.fab_base.specs.declared.messages.Plea.{Plea}
+use Rattle.fab_base.specs.declared.answers.Item.{Item}
+use Rattle.fab_base.proofs.Tests.{and_both, is_at_most}
+use Rattle.fab_rules.specs.declared.blocks.Block.{Block}
+use Rattle.remote_view.specs.declared.plight.Plight.{Plight}
+use Rattle.remote_view.specs.Plights.{is_start}
+use Rattle.remote_view.specs.Pleading.{rvc_of, after_rvc}
+use Rattle.fab_machine.specs.State.{Rounds, Replica}
+use Rattle.fab_machine.specs.Rounds.{next_round}
+use Rattle.fab_machine.specs.Pleading.{after_start}
+use Rattle.fab_machine.proofs.Keeping.{is_missing}
+use Rattle.round_exec.specs.Book.{missing_of}
+use Rattle.cluster_talk.specs.Talking.{askers_after}
+use Rattle.replica_core.specs.Inside.{started}
+
+-- it is one of the clusters
+pub missing_cluster : (r : Roster) (clusters : ℕ) (t : Rounds) (missing : ℕ) → clusters ≡ length r.sizes → Some missing ≡ missing_of (next_round clusters t)
+    → IsTrue (is_cluster r missing)
+missing_cluster r clusters t missing size e = go (next_round clusters t) refl e
+  where
+    go : (o : Result (List Block) ℕ) → next_round clusters t ≡ o → Some missing ≡ missing_of o → IsTrue (is_cluster r missing)
+    go (Ok blocks) f h = absurd cc
+    go (Err cluster) f h =
+        let same : missing ≡ cluster = cc in
+        let m = is_missing clusters t cluster f in
+        subst (λ c. IsTrue (is_cluster r c)) (sym same)
+        (and_both (nat_le 1 cluster) _ (is_at_most 1 cluster m.0) (is_at_most cluster (length r.sizes) (subst (λ n. cluster ≤ n) size m.1)))
+
+-- it is noted who asks before the next view is asked for
+pub rvc_starts : (r : Roster) (me : ReplicaId) (s : Replica) (p : Plea) (passed : List Item) (plight : Plight)
+    → started r me (record s { pleading = after_rvc s.pleading (rvc_of p); askers = askers_after s.askers p plight; outbox = s.outbox ++ passed }) (is_start plight)
+    ≡ after_start r me (record s { pleading = after_rvc s.pleading (rvc_of p); outbox = s.outbox ++ passed }) p plight
+rvc_starts r me s p passed Plight.Start = refl
+rvc_starts r me s p passed Plight.Kept = refl
+rvc_starts r me s p passed Plight.Twice = refl
+rvc_starts r me s p passed (Plight.Past at) = refl
+rvc_starts r me s p passed Plight.Join = refl
+rvc_starts r me s p passed (Plight.Send joins) = refl
