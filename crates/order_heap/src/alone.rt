@@ -150,6 +150,8 @@ fn sort(put: &mut VecDeque<Message>, outs: Outs) -> Result<Option<Batch>, NoMemo
         match out {
             Out::Put(item) => put.push_back(item.message)?,
             Out::Certified(cert) => committed = Some(cert.batch),
+            // Ordering in one view brings neither about.
+            Out::Clear | Out::Entered(_) => {}
         }
     }
     Ok(committed)

@@ -2,5 +2,4 @@ pub mod Outs
 pub mod Machines
 mod Noting
 mod Within
-mod Late
 mod Missing
