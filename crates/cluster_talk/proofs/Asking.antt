@@ -1,9 +1,8 @@
 -- Who asks is a cluster.
-use Rattle.std.proofs.Common.{◌≡◌, Bool, true, false, cond, List, [], ◌∷◌, ◌++◌, inl, inr, sym, subst}
+use Rattle.std.proofs.Common.{◌≡◌, Bool, true, false, cond, List, [], ◌∷◌, ◌++◌, inl, inr, subst}
 use Rattle.std.specs.Bool.{IsTrue}
 use Rattle.fab_base.specs.Limits.{Roster}
 use Rattle.fab_base.specs.Roster.{is_cluster, is_replica}
-use Rattle.fab_base.specs.declared.ids.ReplicaId.{ReplicaId}
 use Rattle.fab_base.specs.declared.messages.Plea.{Plea}
 use Rattle.fab_base.proofs.Tests.{and_left}
 use Rattle.fab_rules.specs.Lists.{In}

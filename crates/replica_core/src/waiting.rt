@@ -1,6 +1,5 @@
 //! What waits to be sent.
 ghost use Rattle.std.specs.Prelude.{◌≡◌, ◌++◌, OnOk};
-ghost use Rattle.std.specs.List.{filter};
 ghost use Rattle.fab_machine.specs.Items.{stays, those_that_stay};
 
 use crate::NoMemory;

@@ -1,4 +1,4 @@
-use Rattle.std.proofs.Common.{◌≡◌, sym, ap, subst, rules, ◌∙◌}
+use Rattle.std.proofs.Common.{sym, ap, subst, rules, ◌∙◌}
 use Rattle.std.specs.Bool.{IsTrue}
 use Rattle.fab_base.specs.Roster.{is_replica}
 use Rattle.cluster_talk.specs.Talking.{AreClusters}
