@@ -44,7 +44,7 @@ distinct script ids h e = subst AreDistinct (sym e) (all_apart script (replicas_
 
 -- ---- a script without timeout lines and patience
 
-rules_with : Script → List Line → ℕ → Rules
+abbrev rules_with : Script → List Line → ℕ → Rules
 rules_with script lines patience = record (rules_of script (makers_of script) (copies_of script)) { lines = lines; patience = patience }
 
 untimed : (script : Script) → rules_of script (makers_of script) (copies_of script) ≡ script_rules script
@@ -113,7 +113,7 @@ abbrev pub made : Log Leaves → Maker
 made = made_of (λ (s : Leaves). leaf_count s.key.height) (λ (s : Leaves) (k : ℕ) (content : List ℕ). leaf_signature s.key k content)
 
 -- no script has losses or faults: what it makes a replica with is what a log is made with
-maker_with : Script → ReplicaId → List Loss → Option Fault → Maker
+abbrev maker_with : Script → ReplicaId → List Loss → Option Fault → Maker
 maker_with script i losses fault = record (made (log_of script i)) { losses = losses; fault = fault }
 
 pub made_as : (script : Script) (i : ReplicaId) → made (log_of script i) ≡ maker_of script i
