@@ -1,6 +1,11 @@
-pub mod Seats
-pub mod Feeding
-mod Named
+mod Feeding
 mod Tagged
-pub mod Fleets
-pub mod Taken
+mod Named
+mod Seats
+mod Taken
+mod Fair
+mod Pairs
+mod Cuts
+mod Quiets
+mod Given
+mod Fleets
