@@ -108,7 +108,10 @@ module _ (bare : List Trace) (m : Maker) where
   cut_turned number refusal (Origin.Client k) = refl
   cut_turned number refusal (Origin.Replica from time) = refl
 
-  nothing : (b : Bool) → [] {Turned} ≡ cond b [] []
+  abbrev none : List Turned
+  none = []
+
+  nothing : (b : Bool) → none ≡ cond b none none
   nothing true = refl
   nothing false = refl
 
@@ -254,31 +257,31 @@ cut_at bare a e = record { maker = a.maker; journal = a.journal; took = filter (
 
 abbrev pub cuts_at : List Trace → List End → List End → List End
 cuts_at bare [] es = []
-cuts_at bare (a ∷ as) [] = []
-cuts_at bare (a ∷ as) (e ∷ es) = cut_at bare a e ∷ cuts_at bare as es
+cuts_at bare (a ∷ olds) [] = []
+cuts_at bare (a ∷ olds) (e ∷ es) = cut_at bare a e ∷ cuts_at bare olds es
 
 -- what one of them was cut from
-pub record CutOf (bare : List Trace) (as es : List End) (c : End) : Type 0 where
+pub record CutOf (bare : List Trace) (olds es : List End) (c : End) : Type 0 where
   pub past : End
   pub now : End
-  pub in_past : In past as
+  pub in_past : In past olds
   pub in_now : In now es
   pub grows : Grows past now
   pub same : cut_at bare past now ≡ c
 
-pub cut_of : (bare : List Trace) (as es : List End) (c : End) → AreOn Grows as es → In c (cuts_at bare as es) → CutOf bare as es c
+pub cut_of : (bare : List Trace) (olds es : List End) (c : End) → AreOn Grows olds es → In c (cuts_at bare olds es) → CutOf bare olds es c
 cut_of bare [] es c h i = absurd i
-cut_of bare (a ∷ as) [] c h i = absurd i
-cut_of bare (a ∷ as) (e ∷ es) c h (inl q) = record { past = a; now = e; in_past = inl refl; in_now = inl refl; grows = h.0; same = q }
-cut_of bare (a ∷ as) (e ∷ es) c h (inr i) =
-    let k = cut_of bare as es c h.1 i in
+cut_of bare (a ∷ olds) [] c h i = absurd i
+cut_of bare (a ∷ olds) (e ∷ es) c h (inl q) = record { past = a; now = e; in_past = inl refl; in_now = inl refl; grows = h.0; same = q }
+cut_of bare (a ∷ olds) (e ∷ es) c h (inr i) =
+    let k = cut_of bare olds es c h.1 i in
     record { past = k.past; now = k.now; in_past = inr k.in_past; in_now = inr k.in_now; grows = k.grows; same = k.same }
 
-pub cut_makers : (bare : List Trace) (as es : List End) → AreOn Grows as es → makers_at (cuts_at bare as es) ≡ makers_at as
+pub cut_makers : (bare : List Trace) (olds es : List End) → AreOn Grows olds es → makers_at (cuts_at bare olds es) ≡ makers_at olds
 cut_makers bare [] [] h = refl
 cut_makers bare [] (e ∷ es) h = absurd h
-cut_makers bare (a ∷ as) [] h = absurd h
-cut_makers bare (a ∷ as) (e ∷ es) h = ap (λ l. a.maker ∷ l) (cut_makers bare as es h.1)
+cut_makers bare (a ∷ olds) [] h = absurd h
+cut_makers bare (a ∷ olds) (e ∷ es) h = ap (λ l. a.maker ∷ l) (cut_makers bare olds es h.1)
 
 -- ---- the cut of a transcript is theirs
 
@@ -294,29 +297,29 @@ take_prefix (x ∷ a) (y ∷ b) (suc n) e h =
 
 module _ (at : ReplicaId → ℕ) where
   abbrev AreAt : List End → Type 0
-  AreAt as = (a : End) → In a as → at a.maker.id ≡ length a.journal
+  AreAt olds = (a : End) → In a olds → at a.maker.id ≡ length a.journal
 
-  pub bare_cut : (as es : List End) → AreAt as → AreOn Grows as es → bare_cuts at (makers_at as) (map trace_at es) ≡ map bare_at as
+  pub bare_cut : (olds es : List End) → AreAt olds → AreOn Grows olds es → bare_cuts at (makers_at olds) (map trace_at es) ≡ map bare_at olds
   bare_cut [] [] h on = refl
   bare_cut [] (e ∷ es) h on = absurd on
-  bare_cut (a ∷ as) [] h on = absurd on
-  bare_cut (a ∷ as) (e ∷ es) h on =
-      ap (λ j. trace_of a.maker j [] ∷ bare_cuts at (makers_at as) (map trace_at es))
+  bare_cut (a ∷ olds) [] h on = absurd on
+  bare_cut (a ∷ olds) (e ∷ es) h on =
+      ap (λ j. trace_of a.maker j [] ∷ bare_cuts at (makers_at olds) (map trace_at es))
       (take_prefix a.journal e.journal (at a.maker.id) (h a (inl refl)) on.0.journal)
-      ∙ ap (λ l. bare_at a ∷ l) (bare_cut as es (λ x i. h x (inr i)) on.1)
+      ∙ ap (λ l. bare_at a ∷ l) (bare_cut olds es (λ x i. h x (inr i)) on.1)
 
-  pub cut_with : (bare : List Trace) (as es : List End) → AreAt as → AreOn Grows as es
-      → cuts_with bare at (makers_at as) (map trace_at es) ≡ map trace_at (cuts_at bare as es)
+  pub cut_with : (bare : List Trace) (olds es : List End) → AreAt olds → AreOn Grows olds es
+      → cuts_with bare at (makers_at olds) (map trace_at es) ≡ map trace_at (cuts_at bare olds es)
   cut_with bare [] [] h on = refl
   cut_with bare [] (e ∷ es) h on = absurd on
-  cut_with bare (a ∷ as) [] h on = absurd on
-  cut_with bare (a ∷ as) (e ∷ es) h on =
-      let later = cuts_with bare at (makers_at as) (map trace_at es) in
+  cut_with bare (a ∷ olds) [] h on = absurd on
+  cut_with bare (a ∷ olds) (e ∷ es) h on =
+      let later = cuts_with bare at (makers_at olds) (map trace_at es) in
       let refusals = filter (names_one bare a.maker.id) (flat_map turned_of (refused e.maker e.took)) in
       ap (λ j. trace_of a.maker j refusals ∷ later) (take_prefix a.journal e.journal (at a.maker.id) (h a (inl refl)) on.0.journal)
       ∙ ap (λ m. trace_of a.maker a.journal (filter (names_one bare a.maker.id) (flat_map turned_of (refused m e.took))) ∷ later) on.0.maker
       ∙ ap (λ l. trace_of a.maker a.journal l ∷ later) (cut_refused bare a.maker e.took)
-      ∙ ap (λ l. trace_at (cut_at bare a e) ∷ l) (cut_with bare as es (λ x i. h x (inr i)) on.1)
+      ∙ ap (λ l. trace_at (cut_at bare a e) ∷ l) (cut_with bare olds es (λ x i. h x (inr i)) on.1)
 
 -- ---- the numbers of a moment
 

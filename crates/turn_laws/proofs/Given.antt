@@ -70,7 +70,7 @@ path_grows p (q ∷ rest) a e h = grows_both a h.0 e (went_grows (given p a) a h
 
 get_cases : {X : Type 0} (xs ys : List X) (k : ℕ) (y : X) → slice_get (xs ++ ys) k ≡ Some y
     → (k < length xs) ⊎ ((j : ℕ) × (k ≡ length xs + j) × (slice_get ys j ≡ Some y))
-get_cases [] ys k y h = inr (k, refl, h)
+get_cases [] ys k y h = inr (k, omega arith, h)
 get_cases (x ∷ xs) ys zero y h = inl (omega arith)
 get_cases (x ∷ xs) ys (suc k) y h = go (get_cases xs ys k y h)
   where
@@ -365,44 +365,44 @@ timed_moved : (m : Maker) (journal : List Entry) (timed : Bool) → timed ≡ tr
 timed_moved m journal false e h = absurd cc
 timed_moved m journal true e h = ap (λ b. timeouts (cond b (Entry.TimedOut ∷ []) [])) h
 
-on_sum : (R : End → End → Type 0) (as bs : List End) → ((a b : End) → R a b → timed_at a ≤ timed_at b) → AreOn R as bs → all_timed as ≤ all_timed bs
+on_sum : (R : End → End → Type 0) (olds news : List End) → ((a b : End) → R a b → timed_at a ≤ timed_at b) → AreOn R olds news → all_timed olds ≤ all_timed news
 on_sum R [] [] f h = omega arith
-on_sum R [] (b ∷ bs) f h = absurd h
-on_sum R (a ∷ as) [] f h = absurd h
-on_sum R (a ∷ as) (b ∷ bs) f h =
-    let later = on_sum R as bs f h.1 in
+on_sum R [] (b ∷ news) f h = absurd h
+on_sum R (a ∷ olds) [] f h = absurd h
+on_sum R (a ∷ olds) (b ∷ news) f h =
+    let later = on_sum R olds news f h.1 in
     let here = f a b h.0 in
-    let x = sum_by-cons timed_at a as in
-    let y = sum_by-cons timed_at b bs in
+    let x = sum_by-cons timed_at a olds in
+    let y = sum_by-cons timed_at b news in
     omega (arith, later, here, x, y)
 
-on_one : (R : End → End → Type 0) (as bs : List End) (e : End) → In e as → ((a b : End) → R a b → timed_at a ≤ timed_at b)
-    → ((b : End) → R e b → timed_at e + 1 ≤ timed_at b) → AreOn R as bs
-    → all_timed as + 1 ≤ all_timed bs
-on_one R [] bs e i f g h = absurd i
-on_one R (a ∷ as) [] e i f g h = absurd h
-on_one R (a ∷ as) (b ∷ bs) e (inl q) f g h =
-    let later = on_sum R as bs f h.1 in
+on_one : (R : End → End → Type 0) (olds news : List End) (e : End) → In e olds → ((a b : End) → R a b → timed_at a ≤ timed_at b)
+    → ((b : End) → R e b → timed_at e + 1 ≤ timed_at b) → AreOn R olds news
+    → all_timed olds + 1 ≤ all_timed news
+on_one R [] news e i f g h = absurd i
+on_one R (a ∷ olds) [] e i f g h = absurd h
+on_one R (a ∷ olds) (b ∷ news) e (inl q) f g h =
+    let later = on_sum R olds news f h.1 in
     let here : timed_at a + 1 ≤ timed_at b = subst (λ (z : End). R z b → timed_at z + 1 ≤ timed_at b) (sym q) (g b) h.0 in
-    let x = sum_by-cons timed_at a as in
-    let y = sum_by-cons timed_at b bs in
+    let x = sum_by-cons timed_at a olds in
+    let y = sum_by-cons timed_at b news in
     omega (arith, later, here, x, y)
-on_one R (a ∷ as) (b ∷ bs) e (inr i) f g h =
-    let later = on_one R as bs e i f g h.1 in
+on_one R (a ∷ olds) (b ∷ news) e (inr i) f g h =
+    let later = on_one R olds news e i f g h.1 in
     let here = f a b h.0 in
-    let x = sum_by-cons timed_at a as in
-    let y = sum_by-cons timed_at b bs in
+    let x = sum_by-cons timed_at a olds in
+    let y = sum_by-cons timed_at b news in
     omega (arith, later, here, x, y)
 
-moment_used : (p : Pause) (bs : List End) (timed : Bool) → p.timed ≡ timed → (p.timed ≡ true → HasMoved p) → AreOn (Went p) p.ends bs
-    → one_if timed + all_timed p.ends ≤ all_timed bs
-moment_used p bs false e moved h =
-    let k = on_sum (Went p) p.ends bs (λ a b w. let s = timed_step a b (given p a) w in omega (arith, s)) h in omega (arith, k)
-moment_used p bs true e moved h =
+moment_used : (p : Pause) (news : List End) (timed : Bool) → p.timed ≡ timed → (p.timed ≡ true → HasMoved p) → AreOn (Went p) p.ends news
+    → one_if timed + all_timed p.ends ≤ all_timed news
+moment_used p news false e moved h =
+    let k = on_sum (Went p) p.ends news (λ a b w. let s = timed_step a b (given p a) w in omega (arith, s)) h in omega (arith, k)
+moment_used p news true e moved h =
     let m = moved e in
     let one : timeouts (given p m.0) ≡ 1 = timed_moved m.0.maker m.0.journal p.timed e m.2 in
     let k =
-    on_one (Went p) p.ends bs m.0 m.1 (λ a b w. let s = timed_step a b (given p a) w in omega (arith, s))
+    on_one (Went p) p.ends news m.0 m.1 (λ a b w. let s = timed_step a b (given p a) w in omega (arith, s))
     (λ b w. let s = timed_step m.0 b (given p m.0) w in omega (arith, s, one)) h in
     omega (arith, k)
 

@@ -1,11 +1,11 @@
-mod Feeding
-mod Tagged
+pub mod Seats
+pub mod Feeding
 mod Named
-mod Seats
-mod Taken
+mod Tagged
 mod Fair
-mod Pairs
+pub mod Pairs
 mod Cuts
 mod Quiets
 mod Given
-mod Fleets
+pub mod Fleets
+pub mod Taken

@@ -40,40 +40,40 @@ grows_both a b c h k = record {
 
 module _ (R : End → End → Type 0) where
   -- the one before, and the one after
-  pub record BeforeOf (as : List End) (b : End) : Type 0 where
+  pub record BeforeOf (olds : List End) (b : End) : Type 0 where
     pub end : End
-    pub there : In end as
+    pub there : In end olds
     pub holds : R end b
 
-  pub record AfterOf (bs : List End) (a : End) : Type 0 where
+  pub record AfterOf (news : List End) (a : End) : Type 0 where
     pub end : End
-    pub there : In end bs
+    pub there : In end news
     pub holds : R a end
 
-  pub before_of : (as bs : List End) (b : End) → AreOn R as bs → In b bs → BeforeOf as b
+  pub before_of : (olds news : List End) (b : End) → AreOn R olds news → In b news → BeforeOf olds b
   before_of [] [] b h i = absurd i
-  before_of [] (y ∷ bs) b h i = absurd h
-  before_of (x ∷ as) [] b h i = absurd h
-  before_of (x ∷ as) (y ∷ bs) b h (inl e) = record { end = x; there = inl refl; holds = subst (R x) e h.0 }
-  before_of (x ∷ as) (y ∷ bs) b h (inr i) = let k = before_of as bs b h.1 i in record { end = k.end; there = inr k.there; holds = k.holds }
+  before_of [] (y ∷ news) b h i = absurd h
+  before_of (x ∷ olds) [] b h i = absurd h
+  before_of (x ∷ olds) (y ∷ news) b h (inl e) = record { end = x; there = inl refl; holds = subst (R x) e h.0 }
+  before_of (x ∷ olds) (y ∷ news) b h (inr i) = let k = before_of olds news b h.1 i in record { end = k.end; there = inr k.there; holds = k.holds }
 
-  pub after_of : (as bs : List End) (a : End) → AreOn R as bs → In a as → AfterOf bs a
+  pub after_of : (olds news : List End) (a : End) → AreOn R olds news → In a olds → AfterOf news a
   after_of [] [] a h i = absurd i
-  after_of [] (y ∷ bs) a h i = absurd h
-  after_of (x ∷ as) [] a h i = absurd h
-  after_of (x ∷ as) (y ∷ bs) a h (inl e) = record { end = y; there = inl refl; holds = subst (λ (z : End). R z y) e h.0 }
-  after_of (x ∷ as) (y ∷ bs) a h (inr i) = let k = after_of as bs a h.1 i in record { end = k.end; there = inr k.there; holds = k.holds }
+  after_of [] (y ∷ news) a h i = absurd h
+  after_of (x ∷ olds) [] a h i = absurd h
+  after_of (x ∷ olds) (y ∷ news) a h (inl e) = record { end = y; there = inl refl; holds = subst (λ (z : End). R z y) e h.0 }
+  after_of (x ∷ olds) (y ∷ news) a h (inr i) = let k = after_of olds news a h.1 i in record { end = k.end; there = inr k.there; holds = k.holds }
 
-pub on_as : (R S : End → End → Type 0) (as bs : List End) → ((a b : End) → R a b → S a b) → AreOn R as bs → AreOn S as bs
+pub on_as : (R S : End → End → Type 0) (olds news : List End) → ((a b : End) → R a b → S a b) → AreOn R olds news → AreOn S olds news
 on_as R S [] [] f h = tt
-on_as R S [] (y ∷ bs) f h = absurd h
-on_as R S (x ∷ as) [] f h = absurd h
-on_as R S (x ∷ as) (y ∷ bs) f h = (f x y h.0, on_as R S as bs f h.1)
+on_as R S [] (y ∷ news) f h = absurd h
+on_as R S (x ∷ olds) [] f h = absurd h
+on_as R S (x ∷ olds) (y ∷ news) f h = (f x y h.0, on_as R S olds news f h.1)
 
-pub on_both : (R S T : End → End → Type 0) (as bs cs : List End) → ((a b c : End) → R a b → S b c → T a c) → AreOn R as bs → AreOn S bs cs → AreOn T as cs
+pub on_both : (R S T : End → End → Type 0) (olds news cs : List End) → ((a b c : End) → R a b → S b c → T a c) → AreOn R olds news → AreOn S news cs → AreOn T olds cs
 on_both R S T [] [] [] f h k = tt
 on_both R S T [] [] (z ∷ cs) f h k = absurd k
-on_both R S T [] (y ∷ bs) cs f h k = absurd h
-on_both R S T (x ∷ as) [] cs f h k = absurd h
-on_both R S T (x ∷ as) (y ∷ bs) [] f h k = absurd k
-on_both R S T (x ∷ as) (y ∷ bs) (z ∷ cs) f h k = (f x y z h.0 k.0, on_both R S T as bs cs f h.1 k.1)
+on_both R S T [] (y ∷ news) cs f h k = absurd h
+on_both R S T (x ∷ olds) [] cs f h k = absurd h
+on_both R S T (x ∷ olds) (y ∷ news) [] f h k = absurd k
+on_both R S T (x ∷ olds) (y ∷ news) (z ∷ cs) f h k = (f x y z h.0 k.0, on_both R S T olds news cs f h.1 k.1)

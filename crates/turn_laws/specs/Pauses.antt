@@ -58,9 +58,9 @@ WentLast p a b = Went p a b ⊎ GoesOn [] a b
 -- something holds of each replica at one time and at another
 abbrev pub AreOn : (End → End → Type 0) → List End → List End → Type 0
 AreOn R [] [] = Unit {0}
-AreOn R (a ∷ as) (b ∷ bs) = R a b × AreOn R as bs
-AreOn R [] (b ∷ bs) = ⊥
-AreOn R (a ∷ as) [] = ⊥
+AreOn R (a ∷ olds) (b ∷ news) = R a b × AreOn R olds news
+AreOn R [] (b ∷ news) = ⊥
+AreOn R (a ∷ olds) [] = ⊥
 
 -- from moment to moment, and from the last one to the end
 abbrev pub AreFollowed : List Pause → List End → Type 0
