@@ -1,5 +1,5 @@
 -- Replicas cut to a quiet moment: what each had left behind by then, with what it refused later of what had been put by then.
-use Rattle.std.proofs.Common.{◌≡◌, ℕ, zero, suc, ◌+◌, ◌≤◌, Bool, true, false, cond, List, [], ◌∷◌, ◌++◌, map, length, take, filter, Option, Some, None, Result, Ok, Err, refl, sym, ap, subst, ◌∙◌, arith, inl, inr, append_assoc, append-nil, sum_by}
+use Rattle.std.proofs.Common.{◌≡◌, ℕ, zero, suc, ◌≤◌, Bool, true, false, cond, List, [], ◌∷◌, ◌++◌, map, length, take, filter, Option, Result, Ok, Err, refl, sym, ap, subst, ◌∙◌, arith, inl, inr, append_assoc, append-nil}
 use Rattle.std.specs.List.{flat_map}
 use Rattle.std.specs.Option.{is_some}
 use Rattle.std.proofs.lemmas.List.{append_cancel_left}
@@ -10,7 +10,7 @@ use Rattle.fab_base.specs.declared.messages.Message.{Message}
 use Rattle.fab_rules.specs.Lists.{In, IsPrefixOf}
 use Rattle.fab_rules.proofs.Lists.{in_append_left, in_append_cases, of_filter}
 use Rattle.bft_verify.specs.declared.refusals.Refusal.{Refusal}
-use Rattle.run_words.specs.Keyed.{is_same, of}
+use Rattle.run_words.specs.Keyed.{of}
 use Rattle.run_words.specs.Twists.{sent_to}
 use Rattle.run_words.specs.Journal.{Maker, walk, added, parcels_of, reads}
 use Rattle.run_words.specs.Runs.{Declined, copies_of, turned_by, turned_of, trace_of}

@@ -1,12 +1,12 @@
 -- What the threads of a fleet leave behind is lawful, and settled where nothing is left and nothing moves.
-use Rattle.std.proofs.Common.{◌≡◌, ℕ, ◌+◌, ◌<◌, ◌≤◌, ◌⊎◌, Bool, true, false, cond, List, [], ◌∷◌, ◌++◌, map, length, Some, refl, sym, ap, subst, ◌∙◌, arith, inl, inr, length-append}
+use Rattle.std.proofs.Common.{◌≡◌, ℕ, ◌+◌, ◌<◌, ◌≤◌, ◌⊎◌, true, false, cond, List, [], ◌∷◌, ◌++◌, map, length, Some, refl, sym, ap, subst, ◌∙◌, arith, inl, inr, length-append}
 use Rattle.std.specs.List.{slice_get, count_by, sum_by}
 use Rattle.std.proofs.lemmas.List.Sums.{sum_by-cons}
 use Rattle.fab_rules.specs.Lists.{In}
 use Rattle.fab_rules.proofs.Lists.{of_map}
 use Rattle.run_words.specs.Journal.{Maker, moves, entry_of}
 use Rattle.run_words.specs.Runs.{Rules, Run, transcript}
-use Rattle.run_words.specs.Lawful.{AreEach, IsIdle, at_moment, IsNoMore, AreRising, IsMoment, IsDue, IsDueOne, but_last, is_named_by, is_timed_out, AreNudged, lines_by, AreFree, free_from, timed_out_in, entries_of, Lawful, Settled, Sane}
+use Rattle.run_words.specs.Lawful.{AreEach, IsIdle, at_moment, IsNoMore, AreRising, IsMoment, IsDue, but_last, is_named_by, AreNudged, lines_by, AreFree, free_from, timed_out_in, entries_of, Lawful, Settled, Sane}
 use Rattle.run_words.specs.declared.logs.Entry.{Entry}
 use Rattle.run_words.specs.declared.logs.Moment.{Moment}
 use Rattle.run_words.specs.declared.logs.Trace.{Trace}
@@ -16,7 +16,7 @@ use Rattle.run_words.proofs.Counts.{IsIn}
 use Rattle.run_words.proofs.Ending as ending
 use Rattle.run_words.proofs.Ending.{lawful_of, settled_of}
 use Rattle.turn_laws.specs.Ends.{End, trace_at, AreFed, IsCalm, IsQuiet}
-use Rattle.turn_laws.specs.Pauses.{Pause, entries_at, moment_of, IsPause, AreOn, AreFollowed, all_entries, AreTimely, is_timed, IsPatient, HaveMoved, AreTried}
+use Rattle.turn_laws.specs.Pauses.{Pause, moment_of, IsPause, AreOn, AreFollowed, all_entries, AreTimely, is_timed, IsPatient, HaveMoved, AreTried}
 use Rattle.turn_laws.specs.Fleets.{transcript_at, LawfulLaw, SettledLaw}
 use Rattle.turn_laws.proofs.Tagged.{run_at, end_of}
 use Rattle.turn_laws.proofs.Feeding.{in_makers}
@@ -46,9 +46,9 @@ rising r [] ends s quiet h = tt
 rising r (p ∷ []) ends s quiet h = ((λ y i. absurd i), tt)
 rising r (p ∷ q ∷ rest) ends s quiet h = (
   λ y i.
-  let k = of_map moment_of y (q ∷ rest) i in
-  subst (IsNoMore r (moment_of p)) k.same
-  (no_more r p k.from s (quiet p (inl refl)) (quiet k.from (inr k.is_in)) (between p q rest ends k.from h k.is_in)),
+      let k = of_map moment_of y (q ∷ rest) i in
+      subst (IsNoMore r (moment_of p)) k.same
+      (no_more r p k.from s (quiet p (inl refl)) (quiet k.from (inr k.is_in)) (between p q rest ends k.from h k.is_in)),
   rising r (q ∷ rest) ends s (λ x i. quiet x (inr i)) h.1,
 )
 

@@ -3,8 +3,7 @@ use Rattle.std.proofs.Common.{◌≡◌, ℕ, zero, suc, ◌+◌, ◌<◌, ◌�
 use Rattle.std.specs.List.{slice_get, list_any, count_by, sum_by}
 use Rattle.std.proofs.lemmas.Bool.Decides.{nat_tests}
 use Rattle.std.proofs.lemmas.List.Sums.{sum_by-append, sum_by-cons}
-use Rattle.fab_base.specs.declared.ids.ReplicaId.{ReplicaId}
-use Rattle.fab_rules.specs.Lists.{In, IsPrefixOf}
+use Rattle.fab_rules.specs.Lists.{In}
 use Rattle.run_words.specs.Journal.{Maker, moves, entry_of, IsNext, IsMadeFrom, IsMade}
 use Rattle.run_words.specs.Runs.{Rules}
 use Rattle.run_words.specs.Lawful.{at_moment, but_last, is_named, is_named_by, IsDueOne, is_timed_out, free_from, Sane}

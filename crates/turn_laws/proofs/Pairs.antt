@@ -1,14 +1,10 @@
 -- What holds of each replica at one time and at another.
-use Rattle.std.proofs.Common.{◌≡◌, List, [], ◌∷◌, ◌++◌, map, refl, sym, ap, subst, ◌∙◌, inl, inr, append_assoc}
+use Rattle.std.proofs.Common.{◌≡◌, List, [], ◌∷◌, ◌++◌, refl, sym, ap, subst, ◌∙◌, inl, inr, append_assoc}
 use Rattle.fab_base.specs.declared.ids.ReplicaId.{ReplicaId}
 use Rattle.fab_rules.specs.Lists.{In, IsPrefixOf}
-use Rattle.run_words.specs.Journal.{Maker}
-use Rattle.run_words.specs.Lawful.{AreApart}
-use Rattle.run_words.proofs.Counts.{IsIn}
 use Rattle.turn_laws.specs.Copies.{from, asked}
 use Rattle.turn_laws.specs.Ends.{End}
 use Rattle.turn_laws.specs.Pauses.{AreOn}
-use Rattle.turn_laws.proofs.Tagged.{makers_at}
 
 -- ---- beginnings
 

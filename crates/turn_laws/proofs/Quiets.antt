@@ -1,14 +1,13 @@
 -- A quiet moment of a threaded run is one of its transcript: by the counts at that time, cut out of what there is later.
-use Rattle.std.proofs.Common.{◌≡◌, ℕ, ◌+◌, ◌≤◌, Bool, true, List, [], ◌∷◌, ◌++◌, map, length, filter, refl, sym, ap, subst, ◌∙◌, arith, sum_by, inl, inr, append-nil, length-append}
+use Rattle.std.proofs.Common.{◌≡◌, ℕ, ◌+◌, List, [], ◌∷◌, ◌++◌, map, length, filter, refl, sym, ap, subst, ◌∙◌, arith, sum_by, inl, inr, append-nil, length-append}
 use Rattle.std.specs.List.{flat_map}
 use Rattle.std.proofs.lemmas.List.{length-map}
-use Rattle.fab_base.specs.declared.ids.ReplicaId.{ReplicaId}
 use Rattle.fab_rules.specs.Lists.{In}
 use Rattle.fab_rules.proofs.Lists.{in_append_left, in_append_cases, of_filter}
 use Rattle.run_words.specs.Keyed.{of}
 use Rattle.run_words.specs.Journal.{Maker, parcels_of, reads}
 use Rattle.run_words.specs.Runs.{Rules, copies_of}
-use Rattle.run_words.specs.Lawful.{Test, heard_counted, AreEach, IsQuietCut, at_moment, cut_to, cuts_with, number_at, IsWithin, IsMoment, AreApart, Sane}
+use Rattle.run_words.specs.Lawful.{heard_counted, AreEach, IsQuietCut, at_moment, cut_to, cuts_with, number_at, IsWithin, IsMoment, AreApart, Sane}
 use Rattle.run_words.specs.declared.logs.Pending.{Pending}
 use Rattle.run_words.specs.declared.logs.Trace.{Trace}
 use Rattle.run_words.specs.declared.movers.Mover.{Mover}
@@ -21,7 +20,7 @@ use Rattle.turn_laws.proofs.Tagged.{maker_at, makers_at, run_at, end_of}
 use Rattle.turn_laws.proofs.Feeding.{same_sums, parted, items_counted}
 use Rattle.turn_laws.proofs.Fair.{fair, traces_at, still, unmoved}
 use Rattle.turn_laws.proofs.Pairs.{Grows, before_of, after_of}
-use Rattle.turn_laws.proofs.Cuts.{is_cut, kept_from, kept_asked, bare_at, parcels_at, cut_at, cuts_at, CutOf, cut_of, cut_makers, bare_cut, cut_with, number_of}
+use Rattle.turn_laws.proofs.Cuts.{is_cut, kept_from, kept_asked, bare_at, parcels_at, cut_at, cuts_at, cut_of, cut_makers, bare_cut, cut_with, number_of}
 
 -- what holds of each replica, of those in this order
 pub each_end : (P : Maker → Trace → Type 0) (ends : List End) → ((e : End) → In e ends → P e.maker (trace_at e)) → AreEach P (makers_at ends) (map trace_at ends)
