@@ -1,4 +1,4 @@
-//! The batch, execute and checkpoint workers.
+//! The workers that do one thing of the replica's own accord: batch, execute and checkpoint.
 
 ghost use Rattle.std.specs.Prelude.{◌≡◌};
 ghost use Rattle.turn_lock.specs.Passes.{view, numbers, first_machine};
@@ -18,7 +18,7 @@ use turn_lock::{Pass, Turn};
 pub struct MoverHand<P: Party> {
     /// Its pass of the turn.
     pub act: Pass<Acting<P>>,
-    /// What it does: Batch, Execute or Checkpoint.
+    /// What it does: Batch, Nudge, Execute, Checkpoint or Timeout, and never Emit.
     pub mover: Mover,
     /// How many entries there were when it last found nothing to do.
     pub told: u64,
