@@ -1,8 +1,6 @@
 -- Hands that have done nothing yet.
-use Rattle.std.proofs.Common.{◌≡◌, ◌≢◌, ◌++◌, ℕ, ◌<◌, Bool, true, false, cond, List, [], ◌∷◌, map, None, refl, sym, ap, subst, ◌∙◌}
-use Rattle.fab_base.specs.Limits.{Roster}
+use Rattle.std.proofs.Common.{◌≡◌, ◌++◌, ℕ, ◌<◌, Bool, true, false, cond, List, [], ◌∷◌, map, None, refl, sym, ap, subst, ◌∙◌}
 use Rattle.fab_rules.specs.Lists.{In}
-use Rattle.bft_verify.specs.Ring.{Ring}
 use Rattle.turn_lock.specs.Numbers.{has}
 use Rattle.turn_lock.specs.Histories.{of_numbers}
 use Rattle.turn_lock.specs.Views.{own}
@@ -13,20 +11,15 @@ use Rattle.stage_link.specs.declared.queue.StageQueue.{StageQueue}
 use Rattle.run_words.specs.Journal.{Maker, walk, added}
 use Rattle.run_words.specs.declared.logs.Entry.{Entry}
 use Rattle.run_words.specs.declared.logs.Parcel.{Parcel}
-use Rattle.run_words.specs.declared.movers.Mover.{Mover}
 use Rattle.party_turn.specs.Turns.{PartyTurn, IsPartyPass}
 use Rattle.turn_laws.specs.Workers.{Kind, AreOf}
 use Rattle.turn_laws.specs.Doings.{hearings, put_from, put_of}
 use Rattle.turn_laws.specs.Takings.{item_of}
-use Rattle.stage_looks.specs.Items.{taken, entries_of, in_hand}
+use Rattle.stage_looks.specs.Items.{taken, in_hand}
 use Rattle.stage_looks.specs.Ordering.{FitsOrder}
-use Rattle.stage_looks.specs.Feeding.{kept_copy, IsFeeder}
-use Rattle.stage_looks.specs.Moving.{FitsMover}
 use Rattle.stage_looks.specs.Sending.{AreApart, AreUnused, AreSent, unsent, put_by, FitsOutput}
 use Rattle.stage_looks.specs.declared.items.Item.{Item}
-use Rattle.stage_looks.specs.declared.reading.InputHand.{InputHand}
 use Rattle.stage_looks.specs.declared.ordering.OrderHand.{OrderHand}
-use Rattle.stage_looks.specs.declared.moving.MoverHand.{MoverHand}
 use Rattle.stage_looks.specs.declared.delivering.OutputHand.{OutputHand}
 use Rattle.stage_looks.specs.declared.outlets.Outlet.{Outlet}
 
@@ -39,12 +32,13 @@ none_of k (y ∷ log) e x i = absurd cc
 -- put nothing
 put_none : (m : Maker) (ns : List Bool) (earlier : List Entry) (log : List (ℕ × Entry)) → of_numbers ns log ≡ [] → put_from m ns earlier log ≡ []
 put_none m ns earlier [] h = refl
-put_none m ns earlier (x ∷ log) h = go (has ns x.0) h
+put_none m ns earlier (x ∷ log) h = go (has ns x.0) h (λ e. put_none m ns (earlier ++ x.1 ∷ []) log e)
   where
     go : (b : Bool) → cond b (x ∷ of_numbers ns log) (of_numbers ns log) ≡ []
+        → (of_numbers ns log ≡ [] → put_from m ns (earlier ++ x.1 ∷ []) log ≡ [])
         → cond b (added m (walk m earlier) x.1) [] ++ put_from m ns (earlier ++ x.1 ∷ []) log ≡ []
-    go true e = absurd cc
-    go false e = put_none m ns (earlier ++ x.1 ∷ []) log e
+    go true e later = absurd cc
+    go false e later = later e
 
 -- took nothing
 abbrev AreOfMade : List (ℕ × Item) → ℕ → Type 0
@@ -53,17 +47,6 @@ AreOfMade took n = (x : ℕ × Entry) → In x (taken took) → x.0 < n
 none_made : (took : List (ℕ × Item)) (n : ℕ) → took ≡ [] → AreOfMade took n
 none_made [] n e x i = absurd i
 none_made (y ∷ took) n e x i = absurd cc
-
--- ---- input
-
-pub fresh_feeds : (h : InputHand) → (known h.put).put ≡ [] → h.held ≡ None → h.kept ≡ None → h.refused ≡ []
-    → (members : Roster) (ring : Ring) → IsFeeder members ring [] h
-fresh_feeds h put held kept turned members ring m w = record {
-  took = [];
-  pops = ap kept_copy kept;
-  puts = ap (λ l. entries_of l ++ in_hand h.held) put ∙ ap in_hand held;
-  turns = turned;
-}
 
 module _ {P : Type 0} (made : P → Maker) (turn : PartyTurn P) where
   -- ---- order
@@ -83,11 +66,6 @@ module _ {P : Type 0} (made : P → Maker) (turn : PartyTurn P) where
     };
     in_hand_is = λ e. sym (ap in_hand held);
   }
-
-  -- ---- what does one thing
-
-  pub fresh_mover : (h : MoverHand P) → own (view h.act) ≡ [] → h.mover ≢ Mover.Emit → IsPartyPass made turn h.act → FitsMover made turn h
-  fresh_mover h fresh accord pass = record { of_turn = pass; own_accord = accord; kinds = none_of Kind.Doing (own (view h.act)) fresh }
 
   -- ---- output
 

@@ -4,7 +4,7 @@ ghost use Rattle.std.specs.Prelude.{◌≡◌, ◌≢◌, [], ◌∷◌, true, f
 ghost use Rattle.turn_lock.specs.Views.{own};
 ghost use Rattle.turn_lock.specs.Passes.{view, numbers};
 ghost use Rattle.stage_link.specs.Queues.{known, IsQueuePass};
-ghost use Rattle.stage_link.specs.declared.queue as queues;
+ghost use Rattle.stage_link.specs.declared.queue.StageQueue as queues;
 ghost use Rattle.party_turn.specs.Turns.{PartyTurn, IsPartyPass};
 ghost use Rattle.stage_workers.specs.declared.look.Look.TheVariants.{Idle, NoMemory as NoMemoryLook};
 ghost use Rattle.stage_looks.specs.Items.{entry_of};

@@ -4,7 +4,7 @@ ghost use Rattle.std.specs.Prelude.{◌≡◌, ◌++◌, ◌∷◌, [], List, On
 ghost use Rattle.fab_base.specs.Limits.{Roster};
 ghost use Rattle.bft_verify.specs.Ring as rings;
 ghost use Rattle.stage_link.specs.Queues.{known, IsQueuePass};
-ghost use Rattle.stage_link.specs.declared.queue as queues;
+ghost use Rattle.stage_link.specs.declared.queue.StageQueue as queues;
 ghost use Rattle.run_words.specs.Runs.{turned_by};
 ghost use Rattle.run_words.specs.declared.logs.Pending as pendings;
 ghost use Rattle.stage_workers.specs.declared.look.Look.TheVariants.{Idle};
