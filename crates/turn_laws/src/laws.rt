@@ -2,7 +2,7 @@
 
 ghost use Rattle.turn_laws.specs.Seats.{KindLaw, HearLaw, EmitLaw, HeardLaw, PutLaw, StillLaw};
 ghost use Rattle.turn_laws.specs.Takings.{TakenLaw, HeardEndLaw};
-ghost use Rattle.turn_laws.specs.Ends.{LawfulLaw, SettledLaw};
+ghost use Rattle.turn_laws.specs.Fleets.{LawfulLaw, SettledLaw};
 
 use run_words::Party;
 
