@@ -24,4 +24,4 @@
 
 mod laws;
 
-pub use laws::{fleet_law, seats_law, taken_law};
+pub use laws::{fleet_example, fleet_law, seats_law, taken_law};
