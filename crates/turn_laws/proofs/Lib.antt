@@ -9,3 +9,4 @@ mod Quiets
 mod Given
 pub mod Fleets
 pub mod Taken
+mod Alone

@@ -6,3 +6,4 @@ pub mod Takings
 pub mod Ends
 pub mod Pauses
 pub mod Fleets
+pub mod Examples
