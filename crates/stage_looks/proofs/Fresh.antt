@@ -13,7 +13,7 @@ use Rattle.run_words.specs.declared.logs.Entry.{Entry}
 use Rattle.run_words.specs.declared.logs.Parcel.{Parcel}
 use Rattle.party_turn.specs.Turns.{PartyTurn, IsPartyPass}
 use Rattle.turn_laws.specs.Workers.{Kind, AreOf}
-use Rattle.turn_laws.specs.Doings.{hearings, put_from, put_of}
+use Rattle.turn_laws.specs.Doings.{hearings, put_from}
 use Rattle.turn_laws.specs.Takings.{item_of}
 use Rattle.stage_looks.specs.Items.{taken, in_hand}
 use Rattle.stage_looks.specs.Ordering.{FitsOrder}
