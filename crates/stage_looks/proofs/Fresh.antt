@@ -6,14 +6,12 @@ use Rattle.turn_lock.specs.Histories.{of_numbers}
 use Rattle.turn_lock.specs.Views.{own}
 use Rattle.turn_lock.specs.Passes.{view, first_machine}
 use Rattle.stage_link.specs.Queues.{known, IsQueuePass}
-use Rattle.stage_link.specs.Links.{pushed}
 use Rattle.stage_link.specs.declared.queue.StageQueue.{StageQueue}
 use Rattle.run_words.specs.Journal.{Maker, walk, added}
 use Rattle.run_words.specs.declared.logs.Entry.{Entry}
-use Rattle.run_words.specs.declared.logs.Parcel.{Parcel}
 use Rattle.party_turn.specs.Turns.{PartyTurn, IsPartyPass}
 use Rattle.turn_laws.specs.Workers.{Kind, AreOf}
-use Rattle.turn_laws.specs.Doings.{hearings, put_from, put_of}
+use Rattle.turn_laws.specs.Doings.{hearings, put_from}
 use Rattle.turn_laws.specs.Takings.{item_of}
 use Rattle.stage_looks.specs.Items.{taken, in_hand}
 use Rattle.stage_looks.specs.Ordering.{FitsOrder}
