@@ -12,7 +12,6 @@ use Rattle.sha_lanes.proofs.QuadLemmas.{lane_at, lane_set, length-lane, lane_bel
 use Rattle.sha_lanes.proofs.RoundLemmas.{at_lane}
 use Rattle.sha_lanes.proofs.DigestLemmas.{bytes_at, digest_from, each8}
 use Rattle.lmots_core.specs.Running.{two_and_two}
-use Rattle.lmots_core.specs.declared.abreast.KeyHashes.{KeyHashes}
 use Rattle.lmots_core.specs.Abreast.{HoldMessages}
 use Rattle.lmots_core.proofs.StepLemmas.{each16, digest_same}
 
@@ -165,8 +164,9 @@ length_after m w f n at e low =
 
 -- ---- messages
 
-pub hold_same : (s : KeyHashes) (m n : ℕ → List ℕ) → HoldMessages s m → ((k : ℕ) → k < 4 → m k ≡ n k) → HoldMessages s n
-hold_same s m n held e = record {
+pub hold_same : (state block : List (List ℕ)) (filled : ℕ) (last : List ℕ) (m n : ℕ → List ℕ) → HoldMessages state block filled last m
+    → ((k : ℕ) → k < 4 → m k ≡ n k) → HoldMessages state block filled last n
+hold_same state block filled last m n held e = record {
   words = held.words;
   taken = held.taken;
   whole = λ k lt. sym (e k lt) ∙ held.whole k lt;

@@ -5,7 +5,7 @@
 //! one word of them and two of the next.
 ghost use Rattle.std.specs.Prelude.{◌≡◌, ℕ, List, [], ◌∷◌, ◌++◌, ◌+◌, ◌*◌, ◌%◌, ◌<◌, length, slice_index};
 ghost use Rattle.std.specs.Int.{w32, to_be_bytes};
-ghost use Rattle.sha2.specs.Sha256.{digest_bytes, sha256};
+ghost use Rattle.sha2.specs.Sha256.{digest_bytes, initial_hash_256, sha256};
 ghost use Rattle.sha_lanes.specs.Lanes.{quad, lane, vector};
 ghost use Rattle.lmots_core.specs.Chains.{chain_end};
 ghost use Rattle.lmots_core.specs.OneTime.{public_key};
@@ -29,80 +29,76 @@ fn halves(x: u32x4, y: u32x4) -> u32x4
     (x << u32x4::splat(16)) + (y >> u32x4::splat(16))
 }
 
-// The hashes of four public keys in the making: lane by lane the hash value of the blocks that are full,
-// the block that fills with its number of words, and in the low half of `last` the two bytes behind them.
-#[derive(Drop)]
-pub(crate) struct KeyHashes {
-    state: [u32x4; 8],
-    block: [u32x4; 16],
-    filled: usize,
-    last: u32x4,
+// Takes a word of each message: into the block that fills, and once it is full into the hash values. Gives
+// how many words the block has then.
+fn push(state: &mut [u32x4; 8], block: &mut [u32x4; 16], filled: usize, word: u32x4) -> usize
+    requires { filled < 16 }
+    ensures filled { result ≡ (filled + 1) % 16 }
+    ensures taken { (m : ℕ → List ℕ) → AreTaken state.old block.old filled m → AreTaken state.new block.new result (λ k. m k ++ to_be_bytes w32 (slice_index word k)) }
+{
+    block[filled] = word;
+    if filled < 15 {
+        filled + 1
+    } else {
+        *state = absorb4(state, block);
+        0
+    }
 }
 
-impl KeyHashes {
-    // Of the leaves with these numbers, before the ends of their chains.
-    fn of_leaves(id: &[u8; 16], leaves: u32x4) -> KeyHashes
-        ensures room { result.filled < 16 }
-        ensures held { HoldMessages result (λ k. id.now ++ to_be_bytes w32 (slice_index leaves k) ++ 0x80 ∷ 0x80 ∷ []) }
-    {
-        let mut hashes = KeyHashes {
-            state: initial4(),
-            block: [u32x4::splat(0); 16],
-            filled: 0,
-            last: u32x4::splat(D_PBLC),
-        };
-        hashes.push(id_words(id, 0));
-        hashes.push(id_words(id, 4));
-        hashes.push(id_words(id, 8));
-        hashes.push(id_words(id, 12));
-        hashes.push(leaves);
-        hashes
-    }
+// Begins the hashes of the keys of four leaves, up to the mark D_PBLC.
+fn push_heads(state: &mut [u32x4; 8], block: &mut [u32x4; 16], id: &[u8; 16], leaves: u32x4) -> usize
+    requires { (k : ℕ) → k < 4 → lane state.old k ≡ initial_hash_256 }
+    ensures room { result < 16 }
+    ensures held { HoldMessages state.new block.new result (quad (λ _. 0x8080)) (λ k. id.now ++ to_be_bytes w32 (slice_index leaves k) ++ 0x80 ∷ 0x80 ∷ []) }
+{
+    let filled = push(state, block, 0, id_words(id, 0));
+    let filled = push(state, block, filled, id_words(id, 4));
+    let filled = push(state, block, filled, id_words(id, 8));
+    let filled = push(state, block, filled, id_words(id, 12));
+    push(state, block, filled, leaves)
+}
 
-    // Takes a word of each message.
-    fn push(&mut self, word: u32x4)
-        requires { self.old.filled < 16 }
-        ensures filled { self.new.filled ≡ (self.old.filled + 1) % 16 }
-        ensures last { self.new.last ≡ self.old.last }
-        ensures taken { (m : ℕ → List ℕ) → AreTaken self.old m → AreTaken self.new (λ k. m k ++ to_be_bytes w32 (slice_index word k)) }
-    {
-        self.block[self.filled] = word;
-        self.filled += 1;
-        if self.filled == 16 {
-            self.state = absorb4(&self.state, &self.block);
-            self.filled = 0;
-        }
-    }
+// Takes the ends of the next chain, lane by lane. The last two bytes of each message wait in `last`
+// before, and in the last word of `ends` behind.
+fn push_ends(
+    state: &mut [u32x4; 8],
+    block: &mut [u32x4; 16],
+    filled: usize,
+    last: u32x4,
+    ends: &[u32x4; 8],
+) -> usize
+    requires { filled < 16 }
+    ensures room { result < 16 }
+    ensures held { (m : ℕ → List ℕ) → HoldMessages state.old block.old filled last m → HoldMessages state.new block.new result (vector ends.now 7) (λ k. m k ++ digest_bytes (lane ends.now k) 8) }
+{
+    let filled = push(state, block, filled, halves(last, ends[0]));
+    let filled = push(state, block, filled, halves(ends[0], ends[1]));
+    let filled = push(state, block, filled, halves(ends[1], ends[2]));
+    let filled = push(state, block, filled, halves(ends[2], ends[3]));
+    let filled = push(state, block, filled, halves(ends[3], ends[4]));
+    let filled = push(state, block, filled, halves(ends[4], ends[5]));
+    let filled = push(state, block, filled, halves(ends[5], ends[6]));
+    push(state, block, filled, halves(ends[6], ends[7]))
+}
 
-    // Takes the ends of the next chain, lane by lane.
-    fn push_ends(&mut self, ends: &[u32x4; 8])
-        requires { self.old.filled < 16 }
-        ensures room { self.new.filled < 16 }
-        ensures held { (m : ℕ → List ℕ) → HoldMessages self.old m → HoldMessages self.new (λ k. m k ++ digest_bytes (lane ends.now k) 8) }
-    {
-        self.push(halves(self.last, ends[0]));
-        self.push(halves(ends[0], ends[1]));
-        self.push(halves(ends[1], ends[2]));
-        self.push(halves(ends[2], ends[3]));
-        self.push(halves(ends[3], ends[4]));
-        self.push(halves(ends[4], ends[5]));
-        self.push(halves(ends[5], ends[6]));
-        self.push(halves(ends[6], ends[7]));
-        self.last = ends[7];
+// Ends messages of `bits` bits each, whose padding ends the block that they end in.
+fn push_padding(
+    state: &mut [u32x4; 8],
+    block: &mut [u32x4; 16],
+    filled: usize,
+    last: u32x4,
+    bits: u32,
+)
+    requires { filled < 16 }
+    ensures { (m : ℕ → List ℕ) → HoldMessages state.old block.old filled last m → (k : ℕ) → k < 4 → length (m k) % 32 ≡ 22 → 8 * length (m k) ≡ bits
+        → digest_bytes (lane state.new k) 8 ≡ sha256 (m k) }
+{
+    let from = push(state, block, filled, halves(last, u32x4::splat(END_MARK)));
+    let mut filled = from;
+    'zeros: for _ in from..15 {
+        filled = push(state, block, filled, u32x4::splat(0));
     }
-
-    // The digests of messages of `bits` bits each, whose padding ends the block that they end in.
-    fn finish(&mut self, bits: u32) -> [[u8; 32]; 4]
-        requires { self.old.filled < 16 }
-        ensures { (m : ℕ → List ℕ) → HoldMessages self.old m → (k : ℕ) → k < 4 → length (m k) % 32 ≡ 22 → 8 * length (m k) ≡ bits → vector result k ≡ sha256 (m k) }
-    {
-        self.push(halves(self.last, u32x4::splat(END_MARK)));
-        'zeros: for _ in self.filled..15 {
-            self.push(u32x4::splat(0));
-        }
-        self.push(u32x4::splat(bits));
-        digests4(&self.state)
-    }
+    push(state, block, filled, u32x4::splat(bits));
 }
 
 // The secret of the tree in each lane.
@@ -141,9 +137,21 @@ pub fn publics_of(seed: &OtsSeed, leaves: [u32; 4], kind: OtsKind) -> [[u8; 32];
     ensures { (k : ℕ) → k < 4 → vector result k ≡ public_key kind seed.now (slice_index leaves k) }
 {
     let leaves = u32x4::from_array(leaves);
-    let mut hashes = KeyHashes::of_leaves(&seed.id, leaves);
+    let mut state = initial4();
+    let mut block = [u32x4::splat(0); 16];
+    let mut filled = push_heads(&mut state, &mut block, &seed.id, leaves);
+    let mut last = u32x4::splat(D_PBLC);
     'chains: for i in 0..kind.chain_count() {
-        hashes.push_ends(&ends(seed, leaves, i, kind));
+        let values = ends(seed, leaves, i, kind);
+        filled = push_ends(&mut state, &mut block, filled, last, &values);
+        last = values[7];
     }
-    hashes.finish(8 * (22 + 32 * u32::from(kind.chain_count())))
+    push_padding(
+        &mut state,
+        &mut block,
+        filled,
+        last,
+        8 * (22 + 32 * u32::from(kind.chain_count())),
+    );
+    digests4(&state)
 }

@@ -14,8 +14,8 @@ chains-init c =
     let front = λ (k : ℕ). c.args.seed.now.id ++ to_be_bytes w32 (slice_index c.args.leaves k) ++ 0x80 ∷ 0x80 ∷ [] in
     let y = λ (k : ℕ). chain_end c.args.kind c.args.seed.now (slice_index c.args.leaves k) in
     record {
-      room = c.of_leaves-hashes.ensures.room;
-      held = hold_same _ front (λ k. front k ++ joined (y k) 0) c.of_leaves-hashes.ensures.held (λ k lt. sym (ap (λ (l : List ℕ). front k ++ l) (joined_none (y k)) ∙ append-nil (front k)));
+      room = c.push_heads-filled.ensures.room;
+      held = hold_same _ _ _ _ front (λ k. front k ++ joined (y k) 0) c.push_heads-filled.ensures.held (λ k lt. sym (ap (λ (l : List ℕ). front k ++ l) (joined_none (y k)) ∙ append-nil (front k)));
     }
 
 pub chains-preserved : goal.chains-preserved
@@ -25,7 +25,7 @@ chains-preserved c =
     let i = c.chains.i in
     record {
       room = c.push_ends.ensures.room;
-      held = hold_same _ _ (λ k. front k ++ joined (y k) (i + 1)) (c.push_ends.ensures.held _ c.chains.invariant.held) (λ k lt.
+      held = hold_same _ _ _ _ _ (λ k. front k ++ joined (y k) (i + 1)) (c.push_ends.ensures.held _ c.chains.invariant.held) (λ k lt.
       ap (λ (l : List ℕ). front k ++ joined (y k) i ++ l) (c.ends.ensures k lt) ∙ append_assoc (front k) (joined (y k) i) (y k i)
       ∙ ap (λ (l : List ℕ). front k ++ l) (sym (joined_more (y k) i)));
     }

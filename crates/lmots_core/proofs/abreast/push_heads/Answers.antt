@@ -1,24 +1,23 @@
-use Rattle.std.proofs.Common.{◌≡◌, ◌<◌, ℕ, List, [], ◌∷◌, ◌++◌, slice_index, refl, ◌∙◌, arith}
+use Rattle.std.proofs.Common.{◌≡◌, ◌<◌, ℕ, List, [], ◌∷◌, ◌++◌, slice_index, refl, arith}
 use Rattle.std.specs.Int.{w32, to_be_bytes}
-use Rattle.sha2.specs.Sha256.{word_at, initial_hash_256, digest_bytes}
-use Rattle.sha_lanes.specs.Lanes.{quad, lane}
+use Rattle.sha2.specs.Sha256.{word_at, initial_hash_256}
+use Rattle.sha_lanes.specs.Lanes.{quad}
 use Rattle.sha_lanes.proofs.QuadLemmas.{slice_quad}
 use Rattle.sha_lanes.proofs.RoundLemmas.{at_lane}
-use Rattle.lmots_core.specs.Abreast.{AreTaken}
 use Rattle.lmots_core.proofs.AbreastLemmas.{absorbed_none, head_whole, id_bytes}
-use Rattle.lmots_core.proofs.abreast.KeyHashes.of_leaves.Goals as goal
+use Rattle.lmots_core.proofs.abreast.push_heads.Goals as goal
 
 pub returns : goal.returns
 returns c =
     let id : List ℕ = c.args.id.now in
     let add = λ (w : List ℕ) (m : ℕ → List ℕ) (k : ℕ). m k ++ to_be_bytes w32 (slice_index w k) in
-    let at = λ (w : List ℕ) (b : ℕ) (k : ℕ) (lt : k < 4) (e : w ≡ quad (λ _. word_at id b)). at_lane w (λ _. word_at id b) k lt e in
+    let at = λ (w : List ℕ) (b k : ℕ) (lt : k < 4) (e : w ≡ quad (λ _. word_at id b)). at_lane w (λ _. word_at id b) k lt e in
     record {
-      room = omega (arith, c.push-5.ensures.filled);
+      room = omega (arith, c.push.ensures.filled);
       held = record {
         words = add c.args.leaves (add c.id_words-4.result (add c.id_words-3.result (add c.id_words-2.result (add c.id_words.result (λ _. [])))));
-        taken = c.push-5.ensures.taken _ (c.push-4.ensures.taken _ (c.push-3.ensures.taken _ (c.push-2.ensures.taken _ (c.push.ensures.taken (λ _. [])
-        (λ k lt. (absorbed_none initial_hash_256 _ _ (c.initial4.ensures k lt), refl, λ t low. absurd (omega arith)))))));
+        taken = c.push.ensures.taken _ (c.push-filled-4.ensures.taken _ (c.push-filled-3.ensures.taken _ (c.push-filled-2.ensures.taken _ (c.push-filled.ensures.taken (λ _. [])
+        (λ k lt. (absorbed_none initial_hash_256 _ _ (c.requires k lt), refl, λ t low. absurd (omega arith)))))));
         whole = λ k lt.
             head_whole id _ _ _ _ (slice_index c.args.leaves k) _
             (id_bytes id (slice_index c.id_words.result k ∷ slice_index c.id_words-2.result k ∷ slice_index c.id_words-3.result k ∷ slice_index c.id_words-4.result k ∷ []) c.told-id c.fits-id
