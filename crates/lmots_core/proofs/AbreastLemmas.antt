@@ -1,18 +1,18 @@
 -- Four messages hashed word by word.
-use Rattle.std.proofs.Common.{◌≡◌, ℕ, zero, suc, ◌+◌, ◌-◌, ◌*◌, ◌/◌, ◌%◌, ◌^◌, ◌<◌, ◌≤◌, List, [], ◌∷◌, ◌++◌, length, take, drop, replicate, slice_index, slice_set, refl, sym, ap, ◌∙◌, arith, add-one, length-append, append_assoc, inl, inr, w32, Fits}
+use Rattle.std.proofs.Common.{◌≡◌, ℕ, zero, suc, ◌+◌, ◌-◌, ◌*◌, ◌/◌, ◌%◌, ◌^◌, ◌<◌, ◌≤◌, List, [], ◌∷◌, ◌++◌, length, take, drop, replicate, slice_index, slice_set, refl, sym, ap, ◌∙◌, arith, add-one, length-append, append_assoc, subst, inl, inr, w32, Fits}
 use Rattle.std.specs.Int.{w64, to_be_bytes, from_be_bytes}
 use Rattle.std.specs.Simd.Lanes.{Each1}
 use Rattle.std.proofs.lemmas.Bool.{cases_eq}
-use Rattle.std.proofs.lemmas.List.{take_all, get_or-set_same, get_or-set_other}
+use Rattle.std.proofs.lemmas.List.{take_all, append-nil, get_or-set_same, get_or-set_other, replicate-append-replicate}
 use Rattle.std.proofs.lemmas.Nat.{be_bytes_4, from_be_bytes-to_be_bytes_4}
 use Rattle.sha2.specs.Sha256.{IsAbsorbed, compress, digest_bytes, hash_after, padded_message, padding, word_at}
 use Rattle.sha2.proofs.Absorbing256.{IsAbsorbed_short, IsAbsorbed_fill}
 use Rattle.sha_lanes.specs.Lanes.{quad, lane, vector, HaveBlocks}
-use Rattle.sha_lanes.proofs.QuadLemmas.{lane_at, lane_set, length-lane, lane_below, quad_eq}
+use Rattle.sha_lanes.proofs.QuadLemmas.{lane_at, lane_set, length-lane, lane_below, quad_eq, slice_quad}
 use Rattle.sha_lanes.proofs.RoundLemmas.{at_lane}
 use Rattle.sha_lanes.proofs.DigestLemmas.{bytes_at, digest_from, each8}
 use Rattle.lmots_core.specs.Running.{two_and_two}
-use Rattle.lmots_core.specs.Abreast.{HoldMessages}
+use Rattle.lmots_core.specs.Abreast.{AreTaken, HoldMessages, IsTaken}
 use Rattle.lmots_core.proofs.StepLemmas.{each16, digest_same}
 
 -- ---- words of two halves
@@ -236,3 +236,21 @@ padded_end m p l w f bits em ew short at low eb fits =
           let zeros : (119 - length m % 64) % 64 ≡ 1 = omega (arith, is) in
           rw (many, zeros, size, zeros_above bits fits) (ended_in m p (replicate 4 0) _ l w bits em ew refl)
     ]
+
+-- ---- the zeros of the padding
+
+pub taken_same : (state block : List (List ℕ)) (filled : ℕ) (m n : ℕ → List ℕ) → AreTaken state block filled m
+    → ((k : ℕ) → k < 4 → m k ≡ n k) → AreTaken state block filled n
+taken_same state block filled m n held e = λ k lt. subst (λ (l : List ℕ). IsTaken state block filled k l) (e k lt) (held k lt)
+
+pub no_zeros : (m : List ℕ) (f : ℕ) → m ≡ m ++ replicate (4 * (f - f)) 0
+no_zeros m f = let e : 4 * (f - f) ≡ 0 = omega arith in rw e (sym (append-nil m))
+
+pub zeros_more : (m : List ℕ) (f n w : ℕ) → f ≤ n → w ≡ 0 → m ++ replicate (4 * (n - f)) 0 ++ to_be_bytes w32 w ≡ m ++ replicate (4 * (n + 1 - f)) 0
+zeros_more m f n w le e =
+    let more : 4 * (n + 1 - f) ≡ 4 * (n - f) + 4 = omega arith in
+    rw (e, more) (append_assoc m (replicate (4 * (n - f)) 0) (replicate 4 0) ∙ ap (λ (l : List ℕ). m ++ l) (replicate-append-replicate (4 * (n - f)) 4 0))
+
+-- where the words of two halves end a message
+pub halves_end : (s x : List ℕ) (k : ℕ) → k < 4 → s ≡ quad (λ j. two_and_two (slice_index x j) (slice_index (quad (λ _. 0x80000000)) j)) → slice_index s k ≡ two_and_two (slice_index x k) 0x80000000
+halves_end s x k lt e = halves_at s x (quad (λ _. 0x80000000)) k lt e ∙ ap (two_and_two (slice_index x k)) (slice_quad (λ _. 0x80000000) k lt)

@@ -48,6 +48,7 @@ fn push(state: &mut [u32x4; 8], block: &mut [u32x4; 16], filled: usize, word: u3
 // Begins the hashes of the keys of four leaves, up to the mark D_PBLC.
 fn push_heads(state: &mut [u32x4; 8], block: &mut [u32x4; 16], id: &[u8; 16], leaves: u32x4) -> usize
     requires { (k : ℕ) → k < 4 → lane state.old k ≡ initial_hash_256 }
+    ensures sized { length id.now ≡ 16 }
     ensures room { result < 16 }
     ensures held { HoldMessages state.new block.new result (quad (λ _. 0x8080)) (λ k. id.now ++ to_be_bytes w32 (slice_index leaves k) ++ 0x80 ∷ 0x80 ∷ []) }
 {
@@ -94,11 +95,11 @@ fn push_padding(
         → digest_bytes (lane state.new k) 8 ≡ sha256 (m k) }
 {
     let from = push(state, block, filled, halves(last, u32x4::splat(END_MARK)));
-    let mut filled = from;
+    let mut at = from;
     'zeros: for _ in from..15 {
-        filled = push(state, block, filled, u32x4::splat(0));
+        at = push(state, block, at, u32x4::splat(0));
     }
-    push(state, block, filled, u32x4::splat(bits));
+    push(state, block, at, u32x4::splat(bits));
 }
 
 // The secret of the tree in each lane.

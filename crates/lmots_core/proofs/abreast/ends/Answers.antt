@@ -19,6 +19,6 @@ steps-preserved c = λ k lt.
 pub returns : goal.returns
 returns c = λ k lt.
     let q = slice_index c.args.leaves k in
-    let top = c.top_digit.ensures in
+    let top = c.top_digit-j-end.ensures in
     let done : c.steps.j ≡ top_digit c.args.kind = omega (arith, top) in
     c.steps.invariant k lt ∙ ap (λ (n : ℕ). chain c.args.seed.now.id q c.args.i 0 n (chain_start c.args.seed.now q c.args.i)) done

@@ -24,9 +24,9 @@ chains-preserved c =
     let y = λ (k : ℕ). chain_end c.args.kind c.args.seed.now (slice_index c.args.leaves k) in
     let i = c.chains.i in
     record {
-      room = c.push_ends.ensures.room;
-      held = hold_same _ _ _ _ _ (λ k. front k ++ joined (y k) (i + 1)) (c.push_ends.ensures.held _ c.chains.invariant.held) (λ k lt.
-      ap (λ (l : List ℕ). front k ++ joined (y k) i ++ l) (c.ends.ensures k lt) ∙ append_assoc (front k) (joined (y k) i) (y k i)
+      room = c.push_ends-filled.ensures.room;
+      held = hold_same _ _ _ _ _ (λ k. front k ++ joined (y k) (i + 1)) (c.push_ends-filled.ensures.held _ c.chains.invariant.held) (λ k lt.
+      ap (λ (l : List ℕ). front k ++ joined (y k) i ++ l) (c.ends-values.ensures k lt) ∙ append_assoc (front k) (joined (y k) i) (y k i)
       ∙ ap (λ (l : List ℕ). front k ++ l) (sym (joined_more (y k) i)));
     }
 
@@ -45,7 +45,7 @@ returns c = λ k lt.
     let l1 = length-append front (joined y c.chains.i) in
     let l2 = length-append (seed.id ++ to_be_bytes w32 q) (0x80 ∷ 0x80 ∷ []) in
     let l3 = length-append seed.id (to_be_bytes w32 q) in
-    let id : length seed.id ≡ 16 = ? in
+    let id : length seed.id ≡ 16 = c.push_heads-filled.ensures.sized in
     let size : length (front ++ joined y c.chains.i) ≡ 22 + 32 * c.chains.i = omega (arith, ends, l1, l2, l3, id) in
-    c.finish.ensures _ c.chains.invariant.held k lt (omega (arith, size)) (omega (arith, size, done))
+    c.digests4.ensures k lt ∙ c.push_padding.ensures _ c.chains.invariant.held k lt (omega (arith, size)) (omega (arith, size, done))
     ∙ ap (λ (m : ℕ). sha256 (front ++ joined y m)) done
