@@ -1,11 +1,11 @@
 -- Four messages hashed word by word.
 use Rattle.std.proofs.Common.{◌≡◌, ℕ, zero, suc, ◌+◌, ◌-◌, ◌*◌, ◌/◌, ◌%◌, ◌^◌, ◌<◌, ◌≤◌, List, [], ◌∷◌, ◌++◌, length, take, drop, replicate, slice_index, slice_set, refl, sym, ap, ◌∙◌, arith, add-one, length-append, append_assoc, subst, inl, inr, w32, Fits}
-use Rattle.std.specs.Int.{w64, to_be_bytes, from_be_bytes}
+use Rattle.std.specs.Int.{w64, to_be_bytes}
 use Rattle.std.specs.Simd.Lanes.{Each1}
 use Rattle.std.proofs.lemmas.Bool.{cases_eq}
 use Rattle.std.proofs.lemmas.List.{take_all, append-nil, get_or-set_same, get_or-set_other, replicate-append-replicate}
 use Rattle.std.proofs.lemmas.Nat.{be_bytes_4, from_be_bytes-to_be_bytes_4}
-use Rattle.sha2.specs.Sha256.{IsAbsorbed, compress, digest_bytes, hash_after, padded_message, padding, word_at}
+use Rattle.sha2.specs.Sha256.{IsAbsorbed, compress, digest_bytes, hash_after, padded_message, word_at}
 use Rattle.sha2.proofs.Absorbing256.{IsAbsorbed_short, IsAbsorbed_fill}
 use Rattle.sha_lanes.specs.Lanes.{quad, lane, vector, HaveBlocks}
 use Rattle.sha_lanes.proofs.QuadLemmas.{lane_at, lane_set, length-lane, lane_below, quad_eq, slice_quad}

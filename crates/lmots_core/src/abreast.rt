@@ -46,7 +46,12 @@ fn push(state: &mut [u32x4; 8], block: &mut [u32x4; 16], filled: usize, word: u3
 }
 
 // Begins the hashes of the keys of four leaves, up to the mark D_PBLC.
-fn push_heads(state: &mut [u32x4; 8], block: &mut [u32x4; 16], id: &[u8; 16], leaves: u32x4) -> usize
+fn push_heads(
+    state: &mut [u32x4; 8],
+    block: &mut [u32x4; 16],
+    id: &[u8; 16],
+    leaves: u32x4,
+) -> usize
     requires { (k : ℕ) → k < 4 → lane state.old k ≡ initial_hash_256 }
     ensures sized { length id.now ≡ 16 }
     ensures room { result < 16 }

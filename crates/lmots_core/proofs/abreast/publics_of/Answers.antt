@@ -1,4 +1,4 @@
-use Rattle.std.proofs.Common.{◌≡◌, ℕ, ◌*◌, ◌+◌, ◌%◌, List, [], ◌∷◌, ◌++◌, length, slice_index, sym, ap, ◌∙◌, arith, append_assoc, length-append}
+use Rattle.std.proofs.Common.{◌≡◌, ℕ, ◌*◌, ◌+◌, List, [], ◌∷◌, ◌++◌, length, slice_index, sym, ap, ◌∙◌, arith, append_assoc, length-append}
 use Rattle.std.specs.Int.{w32, to_be_bytes}
 use Rattle.std.proofs.lemmas.List.{append-nil}
 use Rattle.sha2.specs.Sha256.{sha256}
@@ -26,8 +26,8 @@ chains-preserved c =
     record {
       room = c.push_ends-filled.ensures.room;
       held = hold_same _ _ _ _ _ (λ k. front k ++ joined (y k) (i + 1)) (c.push_ends-filled.ensures.held _ c.chains.invariant.held) (λ k lt.
-      ap (λ (l : List ℕ). front k ++ joined (y k) i ++ l) (c.ends-values.ensures k lt) ∙ append_assoc (front k) (joined (y k) i) (y k i)
-      ∙ ap (λ (l : List ℕ). front k ++ l) (sym (joined_more (y k) i)));
+          ap (λ (l : List ℕ). front k ++ joined (y k) i ++ l) (c.ends-values.ensures k lt) ∙ append_assoc (front k) (joined (y k) i) (y k i)
+          ∙ ap (λ (l : List ℕ). front k ++ l) (sym (joined_more (y k) i)));
     }
 
 pub returns : goal.returns

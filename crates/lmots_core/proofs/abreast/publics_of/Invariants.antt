@@ -1,4 +1,4 @@
-use Rattle.std.proofs.Common.{ℕ, ◌<◌, [], ◌∷◌, ◌++◌, slice_index}
+use Rattle.std.proofs.Common.{◌<◌, [], ◌∷◌, ◌++◌, slice_index}
 use Rattle.std.specs.Int.{w32, to_be_bytes}
 use Rattle.lmots_core.specs.Chains.{chain_end, joined}
 use Rattle.lmots_core.specs.Abreast.{HoldMessages}

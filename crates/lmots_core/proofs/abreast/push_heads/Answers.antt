@@ -23,7 +23,7 @@ returns c =
       held = record {
         words = add c.args.leaves m4;
         taken = c.push.ensures.taken m4 (c.push-filled-4.ensures.taken m3 (c.push-filled-3.ensures.taken m2 (c.push-filled-2.ensures.taken m1 (c.push-filled.ensures.taken none
-        (λ k lt. (absorbed_none initial_hash_256 (lane c.args.state.now k) (digest_bytes (lane c.args.block.now k) 0) (c.requires k lt), refl, λ t low. absurd (omega arith)))))));
+            (λ k lt. (absorbed_none initial_hash_256 (lane c.args.state.now k) (digest_bytes (lane c.args.block.now k) 0) (c.requires k lt), refl, λ t low. absurd (omega arith)))))));
         whole = λ k lt.
             head_whole id (slice_index c.id_words.result k) (slice_index c.id_words-2.result k) (slice_index c.id_words-3.result k) (slice_index c.id_words-4.result k) (slice_index c.args.leaves k) _
             (id_bytes id (slice_index c.id_words.result k ∷ slice_index c.id_words-2.result k ∷ slice_index c.id_words-3.result k ∷ slice_index c.id_words-4.result k ∷ []) c.told-id c.fits-id

@@ -1,4 +1,4 @@
-use Rattle.std.proofs.Common.{◌≡◌, ℕ, ◌+◌, ◌*◌, ◌-◌, ◌<◌, ◌++◌, ◌/◌, List, length, replicate, slice_index, refl, sym, ap, ◌∙◌, arith}
+use Rattle.std.proofs.Common.{◌≡◌, ℕ, ◌+◌, ◌*◌, ◌-◌, ◌++◌, ◌/◌, List, length, replicate, slice_index, refl, ap, ◌∙◌, arith}
 use Rattle.std.specs.Int.{w32, to_be_bytes}
 use Rattle.sha2.specs.Sha256.{digest_bytes, hash_after, initial_hash_256, padded_message, sha256}
 use Rattle.sha_lanes.specs.Lanes.{quad}
@@ -11,7 +11,7 @@ zeros-init c = (
   refl,
   omega (arith, c.push-from.ensures.filled),
   λ m held. taken_same c.push-from.new.state c.push-from.new.block c.push-from.result m (λ k. m k ++ replicate (4 * (c.push-from.result - c.push-from.result)) 0) held
-  (λ k lt. no_zeros (m k) c.push-from.result),
+      (λ k lt. no_zeros (m k) c.push-from.result),
 )
 
 pub zeros-preserved : goal.zeros-preserved
@@ -23,8 +23,8 @@ zeros-preserved c =
       omega (arith, c.push-at.ensures.filled, c.zeros.invariant.0),
       omega arith,
       λ m held. taken_same c.push-at.new.state c.push-at.new.block c.push-at.result (λ k. before m k ++ to_be_bytes w32 (slice_index zero k)) (λ k. m k ++ replicate (4 * (n + 1 - from)) 0)
-      (c.push-at.ensures.taken (before m) (c.zeros.invariant.2 m held))
-      (λ k lt. zeros_more (m k) from n (slice_index zero k) c.zeros.auto.counter (slice_quad (λ _. 0) k lt)),
+          (c.push-at.ensures.taken (before m) (c.zeros.invariant.2 m held))
+          (λ k lt. zeros_more (m k) from n (slice_index zero k) c.zeros.auto.counter (slice_quad (λ _. 0) k lt)),
     )
 
 pub returns : goal.returns
