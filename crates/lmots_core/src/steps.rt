@@ -10,7 +10,7 @@ ghost use Rattle.sha_lanes.specs.Lanes.{quad, lane, vector, HaveBlocks};
 ghost use Rattle.lmots_core.specs.Chains.{chain_step};
 ghost use Rattle.lmots_core.specs.Running.{three_and_one, head_word, step_message};
 
-use sha_lanes::{absorb4, hash4, initial4};
+use sha_lanes::{hash_lanes, hash4};
 use std::simd::prelude::*;
 
 // A bit 1, which ends the 55 bytes of a step, and their length in bits; between the two stand zeros.
@@ -141,8 +141,5 @@ pub(crate) fn step_leaves(
 ) -> [u32x4; 8]
     ensures { (k : ℕ) → k < 4 → digest_bytes (lane result k) 8 ≡ chain_step id.now (slice_index leaves k) i j (digest_bytes (lane values.now k) 8) }
 {
-    absorb4(
-        &initial4(),
-        &step_words(id, leaves, [i, i, i, i], [j, j, j, j], values),
-    )
+    hash_lanes(&step_words(id, leaves, [i, i, i, i], [j, j, j, j], values))
 }

@@ -5,7 +5,8 @@
 //! another.
 //!
 //! - [`hash4`] hashes four blocks, each of which is a message with its padding: up to 55 bytes. It takes
-//!   and gives words, so that what is hashed again need not become bytes in between.
+//!   and gives words, so that what is hashed again need not become bytes in between; [`hash_lanes`] leaves
+//!   them in their lanes.
 //! - [`initial4`], [`absorb4`] and [`digests4`] hash four longer messages, block by block. Whoever calls them
 //!   lays out the blocks, with the padding.
 //! - [`digest_of`] and [`words_of`] go from the words of a hash value to the bytes of a digest and back.
@@ -20,5 +21,5 @@ mod states;
 mod words;
 
 pub use digests::{digest_of, words_of};
-pub use hashing::hash4;
+pub use hashing::{hash_lanes, hash4};
 pub use states::{absorb4, digests4, initial4};
