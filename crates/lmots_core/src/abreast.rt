@@ -3,7 +3,7 @@
 //! Chain i of the four leaves runs in the four lanes, and its ends go into the hashes of the four keys
 //! before chain i + 1 starts. The ends stand behind 22 bytes, so that a word of a block has two bytes of
 //! one word of them and two of the next.
-ghost use Rattle.std.specs.Prelude.{◌≡◌, ℕ, List, [], ◌∷◌, ◌++◌, ◌+◌, ◌*◌, ◌%◌, ◌<◌, length, slice_index};
+ghost use Rattle.std.specs.Prelude.{◌≡◌, ℕ, List, [], ◌∷◌, ◌++◌, ◌+◌, ◌*◌, ◌%◌, ◌<◌, length, slice_index, slice_index_or};
 ghost use Rattle.std.specs.Int.{w32, to_be_bytes};
 ghost use Rattle.sha2.specs.Sha256.{digest_bytes, initial_hash_256, sha256};
 ghost use Rattle.sha_lanes.specs.Lanes.{quad, lane, vector};
@@ -140,7 +140,7 @@ fn ends(seed: &OtsSeed, leaves: u32x4, i: u16, kind: OtsKind) -> [u32x4; 8]
 /// [`public_of`](crate::public_of) gives. The four are hashed side by side, in less time than one after
 /// another. It takes no memory.
 pub fn publics_of(seed: &OtsSeed, leaves: [u32; 4], kind: OtsKind) -> [[u8; 32]; 4]
-    ensures { (k : ℕ) → k < 4 → vector result k ≡ public_key kind seed.now (slice_index leaves k) }
+    ensures { (k : ℕ) → k < 4 → slice_index_or result k [] ≡ public_key kind seed.now (slice_index leaves k) }
 {
     let leaves = u32x4::from_array(leaves);
     let mut state = initial4();
