@@ -53,6 +53,7 @@ pub fn initial4() -> [u32x4; 8]
 /// has word `t` of each block in its lane (section 5.2.1). Where lane `i` of `state` is the hash value
 /// after the first n blocks of a padded message and block `i` is the one behind them, lane `i` of the
 /// result is the hash value after n + 1.
+#[inline(never)]
 pub fn absorb4(state: &[u32x4; 8], words: &[u32x4; 16]) -> [u32x4; 8]
     ensures { (b : ℕ → List ℕ) → HaveBlocks words.now b → (i : ℕ) → i < 4 → lane result i ≡ compress (lane state.now i) (b i) }
 {
