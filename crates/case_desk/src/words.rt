@@ -72,6 +72,17 @@ pub(crate) fn replica(word: &str) -> Result<ReplicaId, Unanswered> {
     }
 }
 
+/// Replicas with commas between them. No word names none.
+pub(crate) fn replicas(alloc: Global, word: &str) -> Result<Vec<ReplicaId>, Unanswered> {
+    let mut ids = Vec::new(alloc);
+    if !word.is_empty() {
+        for id in word.split(',') {
+            ids.push(replica(id)?)?;
+        }
+    }
+    Ok(ids)
+}
+
 /// The bytes of a word.
 pub(crate) fn bytes(alloc: Global, word: &str) -> Result<Bytes, NoMemory> {
     Ok(Bytes::from_vec(word.as_bytes().to_vec(alloc)?))

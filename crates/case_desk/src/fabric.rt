@@ -126,11 +126,19 @@ impl Fabric {
         self.node_mut(id)?.seat.hear(message)
     }
 
-    /// One event of the replica at a place, if it has one in this turn. Answers whether there was one.
-    fn turn(&mut self, place: usize, turn: Turn) -> Result<bool, Unanswered> {
+    /// One event of the replica at a place, if it takes part and has one in this turn. Answers whether there was one.
+    fn turn(
+        &mut self,
+        place: usize,
+        turn: Turn,
+        named: &[ReplicaId],
+    ) -> Result<bool, Unanswered> {
         let Some(node) = self.nodes.get_mut(place) else {
             return Ok(false);
         };
+        if !takes_part(named, node.id) {
+            return Ok(false);
+        }
         let answer = node.turn(&self.letters, turn)?;
         self.deliver_any(&answer)
     }
@@ -146,11 +154,11 @@ impl Fabric {
         }
     }
 
-    /// One event of each replica that has one in this turn. Answers how many there were.
-    fn pass(&mut self, turn: Turn) -> Result<u32, Unanswered> {
+    /// One event of each replica that takes part and has one in this turn. Answers how many there were.
+    fn pass(&mut self, turn: Turn, named: &[ReplicaId]) -> Result<u32, Unanswered> {
         let mut events = 0u32;
         for place in 0..self.nodes.len() {
-            if self.turn(place, turn)? {
+            if self.turn(place, turn, named)? {
                 events = events.saturating_add(1);
             }
         }
@@ -158,18 +166,18 @@ impl Fabric {
     }
 
     /// A pass, or where nothing moves one in which all are nudged. Answers how many events there were.
-    fn round(&mut self, mail: Turn) -> Result<u32, Unanswered> {
-        match self.pass(mail)? {
-            0 => self.pass(Turn::Nudge),
+    fn round(&mut self, mail: Turn, named: &[ReplicaId]) -> Result<u32, Unanswered> {
+        match self.pass(mail, named)? {
+            0 => self.pass(Turn::Nudge, named),
             events => Ok(events),
         }
     }
 
     /// Passes until nothing moves. Answers how many events there were, and `None` where it moves on and on.
-    fn events(&mut self, mail: Turn) -> Result<Option<u32>, Unanswered> {
+    fn events(&mut self, mail: Turn, named: &[ReplicaId]) -> Result<Option<u32>, Unanswered> {
         let mut events = 0u32;
         for _ in 0..MOST_PASSES {
-            match self.round(mail)? {
+            match self.round(mail, named)? {
                 0 => return Ok(Some(events)),
                 more => events = events.saturating_add(more),
             }
@@ -177,13 +185,18 @@ impl Fabric {
         Ok(None)
     }
 
-    /// Passes until nothing moves: the number of events.
-    pub(crate) fn settle(&mut self, mail: Turn) -> Text {
-        match self.events(mail)? {
+    /// Passes until nothing moves: the number of events. Those that are named take part, or all where none is.
+    pub(crate) fn settle(&mut self, mail: Turn, named: &[ReplicaId]) -> Text {
+        match self.events(mail, named)? {
             Some(events) => Ok(format!(in self.alloc; "{events} events")?),
             None => plain(self.alloc, "not settled"),
         }
     }
+}
+
+/// Whether a replica takes part: it is named, or none is.
+fn takes_part(named: &[ReplicaId], id: ReplicaId) -> bool {
+    named.is_empty() || named.contains(&id)
 }
 
 /// The interval of checkpoints that a word names. Without one it is the usual one, or the window where that is less.

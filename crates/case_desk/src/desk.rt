@@ -6,14 +6,14 @@ use crate::looking;
 use crate::messages::message;
 use crate::node::{Node, Seat, Turn};
 use crate::rounds::Alone;
-use crate::words::{Text, Unanswered, at, plain, replica, shown};
+use crate::words::{Text, Unanswered, at, plain, replica, replicas, shown};
 use fab_base::{NoMemory, ReplicaId};
 use replica_core::{Answer, Mover};
 use std::alloc::Global;
 
 /// What the cases so far have declared and begun.
 #[derive(Drop)]
-pub(crate) struct Desk {
+pub struct Desk {
     alloc: Global,
     declared: Declared,
     fabric: Option<Fabric>,
@@ -21,8 +21,8 @@ pub(crate) struct Desk {
 }
 
 impl Desk {
-    /// Nothing is declared or begun.
-    pub(crate) fn new(alloc: Global) -> Result<Desk, NoMemory> {
+    /// Nothing is declared or begun. It fails only where memory is refused.
+    pub fn new(alloc: Global) -> Result<Desk, NoMemory> {
         let alone = Alone::new(alloc, 0, 0)?;
         Ok(Desk {
             alloc,
@@ -32,8 +32,8 @@ impl Desk {
         })
     }
 
-    /// The answer to a case. It fails only where memory is refused.
-    pub(crate) fn answer(&mut self, line: &str) -> Result<String, NoMemory> {
+    /// The answer to a case: `unreadable` where it is none, or breaks a condition of the call. It fails only where memory is refused.
+    pub fn answer(&mut self, line: &str) -> Result<String, NoMemory> {
         match self.case(line) {
             Ok(answer) => Ok(answer),
             Err(Unanswered::Unreadable) => String::from_str(self.alloc, "unreadable"),
@@ -87,14 +87,21 @@ impl Desk {
                 let copies = fabric.send(self.declared.request(at(line, 1))?)?;
                 Ok(format!(in self.alloc; "to {copies}")?)
             }
-            "settle" => match at(line, 1) {
-                "first" => fabric.settle(Turn::Oldest),
-                "last" => fabric.settle(Turn::Newest),
-                _ => Err(Unanswered::Unreadable),
-            },
+            "settle" => settle(self.alloc, fabric, line),
             _ => of_replica(self.alloc, fabric, &self.declared, line),
         }
     }
+}
+
+/// Events of those that the line names, or of all, until nothing moves.
+fn settle(alloc: Global, fabric: &mut Fabric, line: &str) -> Text {
+    let turn = match at(line, 1) {
+        "first" => Turn::Oldest,
+        "last" => Turn::Newest,
+        _ => return Err(Unanswered::Unreadable),
+    };
+    let named = replicas(alloc, at(line, 2))?;
+    fabric.settle(turn, &named)
 }
 
 /// What one replica answers.
@@ -109,6 +116,7 @@ fn of_replica(alloc: Global, fabric: &mut Fabric, declared: &Declared, line: &st
         "emit" => act(alloc, fabric, id, Mover::Emit),
         "execute" => act(alloc, fabric, id, Mover::Execute),
         "checkpoint" => act(alloc, fabric, id, Mover::Checkpoint),
+        "timeout" => act(alloc, fabric, id, Mover::Timeout),
         word => asked(alloc, fabric.node(id)?, word),
     }
 }
@@ -157,13 +165,14 @@ fn asked(alloc: Global, node: &Node, word: &str) -> Text {
             None => plain(alloc, "None"),
         },
         "moves" => moves(alloc, &node.seat),
+        "owes" => shown(alloc, &node.seat.would(Mover::Timeout)),
         "low" => shown(alloc, &node.seat.low()),
         "proof" => signers_words(alloc, node.seat.low_proof()),
         _ => Err(Unanswered::Unreadable),
     }
 }
 
-/// Which events would make an entry.
+/// Which events but a Timeout would make an entry.
 fn moves(alloc: Global, seat: &Seat) -> Text {
     let (batch, nudge) = (seat.would(Mover::Batch), seat.would(Mover::Nudge));
     let (emit, execute) = (seat.would(Mover::Emit), seat.would(Mover::Execute));
