@@ -165,19 +165,18 @@ fn asked(alloc: Global, node: &Node, word: &str) -> Text {
             None => plain(alloc, "None"),
         },
         "moves" => moves(alloc, &node.seat),
-        "owes" => shown(alloc, &node.seat.would(Mover::Timeout)),
         "low" => shown(alloc, &node.seat.low()),
         "proof" => signers_words(alloc, node.seat.low_proof()),
         _ => Err(Unanswered::Unreadable),
     }
 }
 
-/// Which events but a Timeout would make an entry.
+/// Which events would make an entry.
 fn moves(alloc: Global, seat: &Seat) -> Text {
     let (batch, nudge) = (seat.would(Mover::Batch), seat.would(Mover::Nudge));
     let (emit, execute) = (seat.would(Mover::Emit), seat.would(Mover::Execute));
-    let checkpoint = seat.would(Mover::Checkpoint);
+    let (checkpoint, timeout) = (seat.would(Mover::Checkpoint), seat.would(Mover::Timeout));
     Ok(format!(in alloc;
-        "batch {batch}, nudge {nudge}, emit {emit}, execute {execute}, checkpoint {checkpoint}"
+        "batch {batch}, nudge {nudge}, emit {emit}, execute {execute}, checkpoint {checkpoint}, timeout {timeout}"
     )?)
 }

@@ -24,8 +24,7 @@
 //! | `settle first`, `settle last` | see below | the number of events |
 //! | `settle first IDS`, `settle last IDS` | the same, but these replicas alone have events; their ids stand with commas | the number of events |
 //! | `first ID`, `draft ID` | – | the first item that waits; how many bytes of it are to be signed |
-//! | `moves ID` | – | which events but a Timeout would make an entry in a journal |
-//! | `owes ID` | – | whether a Timeout would make one |
+//! | `moves ID` | – | which events would make an entry in a journal |
 //! | `low ID`, `proof ID` | – | the low mark; the signers of the Checkpoints that prove it |
 //! | `ledger ID`, `chain ID`, `missing ID` | – | the blocks, each as `ROUND.CLUSTER:BATCH`; the chain in hex; the first cluster without a certificate |
 //! | `after ID ROUND` | – | the chain after that round |
@@ -37,7 +36,7 @@
 //! Answers are written as Rust writes them; of a digest the first four bytes, and of an item the kind, its slot, round or view, and the
 //! number of receivers. A message with a misfit isn't heard, and the answer is the misfit. `settle` goes over all replicas by rising id, again
 //! and again: each hears the oldest (or newest) of its mail, or else takes the first that would make an entry of Batch, Emit, Execute and
-//! Checkpoint. Where no replica had an event each is nudged, and where none proposed the fabric is settled. No replica is timed out by it.
+//! Checkpoint. Where no replica had an event each is nudged, and where none proposed the fabric is settled. A timeout comes only by hand.
 //!
 //! A line that is none of these, or breaks a condition of the call, is answered `unreadable`.
 #![tactic(auto)]
