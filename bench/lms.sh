@@ -2,10 +2,11 @@
 # Counts and times LMS with keys of kind W4.
 #
 # Counted with valgrind's callgrind, which is the same in each run, and asserted: the blocks that are hashed
-# alone, exactly as many as RFC 8554's algorithms hash besides those of chains; the steps of chains, four
-# at a time, of whose lanes no more than 8 in 100 may stand idle; the share of all instructions that is
-# inside these two, at least 95 of 100; and the instructions of a key, a signature and a verification, at most 52 of
-# 100 of what they take with one chain after another. Also asserted: the memory that a key takes.
+# alone and those of leaves' public keys that are hashed four at a time, exactly as many as RFC 8554's
+# algorithms hash besides those of chains; the steps of chains, four at a time, of whose lanes no more than 8
+# in 100 may stand idle, and none where a key is made; the share of all instructions that is inside these three, at
+# least 95 of 100; and the instructions of a key, a signature and a verification, at most 40, 52 and 52 of 100 of
+# what they take with one chain after another. Also asserted: the memory that a key takes.
 # Timed in one run beside `openssl speed` and Bouncy Castle, and only reported.
 set -u
 top=$(cd "$(dirname "$0")/.." && pwd)
@@ -33,49 +34,52 @@ calls() {
     awk -v name="$1" '/^c?fn=/ { key = $1; sub(/^c?fn=/, "", key); if ($0 ~ name) keys[key] = 1; is = /^cfn=/ && (key in keys) }
         /^calls=/ { if (is) { split($0, part, /[= ]/); sum += part[2] } is = 0 } END { print sum + 0 }' "$work/out"
 }
-# Prints the calls of the block function and of a step of four chains, the instructions inside both, and all instructions.
+# Prints the calls of the block function, of a step of four chains of one leaf, of a step of one chain of four leaves and
+# of a block of four public keys, the instructions inside these, and all instructions.
 count() {
     valgrind --tool=callgrind --callgrind-out-file="$work/out" "$program" "$@" >/dev/null 2>"$work/log" || return 1
-    inside=$(callgrind_annotate "$work/out" | awk '/block256::compress|steps::step4/ { gsub(",", "", $1); sum += $1 } END { print sum + 0 }')
+    inside=$(callgrind_annotate "$work/out" | awk '/block256::compress|steps::step4|steps::step_leaves|states::absorb4/ { gsub(",", "", $1); sum += $1 } END { print sum + 0 }')
     all=$(awk '/^(summary|totals):/ { print $2; exit }' "$work/out")
-    echo "$(calls block256::compress) $(calls steps::step4) $inside $all"
+    echo "$(calls block256::compress) $(calls steps::step4) $(calls steps::step_leaves) $(calls states::absorb4) $inside $all"
 }
 
 if command -v valgrind >/dev/null 2>&1; then
     # The words of the program, the blocks that the algorithms hash, and what they are.
-    # A key of height h: 2^h leaves of 67 chains with 1 + 15 blocks, 34 blocks for the public key and one
-    # for the leaf, and 2^h - 1 nodes of two blocks. A signature with its verification: the randomizer 2,
+    # A key of height h: 2^h leaves of 67 chains with 1 + 15 blocks, 34 blocks for the public key, all of them four
+    # leaves at a time, and one for the leaf, and 2^h - 1 nodes of two blocks. A signature with its verification: the randomizer 2,
     # the message 2 and 2, the starts 67, the steps 67 * 15, the public key 34, the leaf 1, the path 2h.
     # The digest of the signatures is the program's own: a signature of 2,348 bytes has 37 blocks and one
     # of 2,508 has 40, and no signature has 1.
-    while read -r words blocks steps name; do
+    while read -r words blocks leaves keys steps name; do
         set -- $(echo "$words" | tr ',' ' ')
-        set -- $(count "$@") || set -- 0 0 0 1
-        share=$(awk "BEGIN { printf \"%.2f\", 100 * $3 / $4 }")
+        set -- $(count "$@") || set -- 0 0 0 0 0 1
+        share=$(awk "BEGIN { printf \"%.2f\", 100 * $5 / $6 }")
         check "$name: $1 blocks of $blocks alone" "$([ "$1" -eq "$blocks" ] && echo yes)"
-        check "$name: $2 steps of four for the $steps of its chains" "$([ $((4 * $2)) -ge "$steps" ] && [ $((400 * $2)) -le $((108 * steps)) ] && echo yes)"
-        check "$name: $share of 100 instructions inside these, $4 in all" "$(awk "BEGIN { if ($share >= 95) print \"yes\" }")"
+        check "$name: $3 steps of four for the $leaves of its leaves" "$([ $((4 * $3)) -eq "$leaves" ] && echo yes)"
+        check "$name: $4 blocks of four for the $keys of their public keys" "$([ $((4 * $4)) -eq "$keys" ] && echo yes)"
+        check "$name: $2 steps of four for the $steps of its signature" "$([ $((4 * $2)) -ge "$steps" ] && [ $((400 * $2)) -le $((108 * steps)) ] && echo yes)"
+        check "$name: $share of 100 instructions inside these, $6 in all" "$(awk "BEGIN { if ($share >= 95) print \"yes\" }")"
         case $words in
-            5,0,0) small=$4 ;;
-            5,1,1) both=$4 ;;
-            10,0,0) large=$4 ;;
+            5,0,0) small=$6 ;;
+            5,1,1) both=$6 ;;
+            10,0,0) large=$6 ;;
         esac
     done <<END
-5,0,0 $((35486 + 1 - 34304)) 34304 a key of height 5, and one block of the program's
-10,0,0 $((1135614 + 1 - 1097728)) 1097728 a key of height 10, and one block of the program's
-5,1,1 $((35486 + 1113 + 10 + 37 - 34304 - 1072)) $((34304 + 1072)) a key of height 5, a signature and its verification
-10,1,1 $((1135614 + 1113 + 20 + 40 - 1097728 - 1072)) $((1097728 + 1072)) a key of height 10, a signature and its verification
+5,0,0 $((35486 + 1 - 34304 - 1088)) 34304 1088 0 a key of height 5, and one block of the program's
+10,0,0 $((1135614 + 1 - 1097728 - 34816)) 1097728 34816 0 a key of height 10, and one block of the program's
+5,1,1 $((35486 + 1113 + 10 + 37 - 34304 - 1088 - 1072)) 34304 1088 1072 a key of height 5, a signature and its verification
+10,1,1 $((1135614 + 1113 + 20 + 40 - 1097728 - 34816 - 1072)) 1097728 34816 1072 a key of height 10, a signature and its verification
 END
     # Beside what the same program takes where chains are run one after another (kind W4, rt's default processor). The signature
     # has the program's digest of it in both.
-    set -- $(count 5 1 0) || set -- 0 0 0 1
-    while read -r now alone name; do
+    set -- $(count 5 1 0) || set -- 0 0 0 0 0 1
+    while read -r now alone most name; do
         share=$(awk "BEGIN { printf \"%.1f\", 100 * $now / $alone }")
-        check "$name: $now instructions, $share of 100 of $alone" "$(awk "BEGIN { if ($now > 0 && $share <= 52) print \"yes\" }")"
+        check "$name: $now instructions, $share of 100 of $alone, at most $most" "$(awk "BEGIN { if ($now > 0 && $share <= $most) print \"yes\" }")"
     done <<END
-$large 3532229859 a key of height 10
-$(($4 - small)) 1877239 a signature
-$((both - $4)) 1738053 its verification
+$large 3532229859 40 a key of height 10
+$(($6 - small)) 1877239 52 a signature
+$((both - $6)) 1738053 52 its verification
 END
     for part in "5 8192" "10 131072"; do
         set -- $part

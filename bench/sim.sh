@@ -16,11 +16,12 @@
 #              report the journals are replayed, once more that of the longest ledger: 3 n r + 3 (n + 1) r; the audit looks at each proposal
 #              heard, the report at each block: n r + r. In all r (10 n + 4)
 # What signatures need is counted in SHA-256's blocks, as bench/lms.sh counts them, for the mean sum of a signature's digits: of 67 digits
-# 499, with a spread of 39. Steps of chains are made four at a time, and each counts as four blocks, though a lane may stand idle.
+# 499, with a spread of 39. Steps of chains are made four at a time, and each counts as four blocks, though a lane may stand idle; where keys
+# are made, so are the blocks of leaves' public keys.
 #
 # Counted with valgrind's callgrind, which is the same in each run. Times are processor time, the least of five runs, and are told, not asserted:
 # they differ from run to run by more than what is to be seen. Memory is the greatest resident size. Asserted:
-# 1. at least 90 of 100 instructions are inside SHA-256's block function and the steps of four chains;
+# 1. at least 90 of 100 instructions are inside SHA-256's block function, the steps of four chains and the blocks of four public keys;
 # 2. blocks are no less than signatures and the digests of batches need by 3 of 100, and no more by 8;
 # 3. memory beyond that of the empty script is at most 6 times the bytes of the messages heard;
 # 4. for a byte heard, a run takes at most 1.05 times the instructions and 1.25 times the memory that the next smaller run takes, of fewer
@@ -93,14 +94,15 @@ resident() { # resident SCRIPT greatest|least
   done | sort -n | if [ "$2" = least ]; then head -n 1; else tail -n 1; fi | awk '{ print 1024 * $1 }'
 }
 
-# Prints the blocks that are hashed, the instructions inside the block function and the steps of four chains, and all instructions.
+# Prints the blocks that are hashed, the instructions inside the block function, the steps of four chains and the blocks of four public keys,
+# and all instructions.
 count() { # count SCRIPT
   valgrind --tool=callgrind --compress-strings=no --compress-pos=no --callgrind-out-file="$work/out" \
     "$program" sim <"$1" >/dev/null 2>"$work/log" || { cat "$work/log" >&2; exit 1; }
   local calls inside all
-  calls=$(awk '/^cfn=/ { blocks = /block256::compress/ ? 1 : /steps::step4/ ? 4 : 0 }
+  calls=$(awk '/^cfn=/ { blocks = /block256::compress/ ? 1 : /steps::step(4|_leaves)|states::absorb4/ ? 4 : 0 }
     /^calls=/ && blocks { split($0, part, /[= ]/); sum += blocks * part[2] } END { print sum + 0 }' "$work/out")
-  inside=$(callgrind_annotate "$work/out" | awk '/block256::compress|steps::step4/ { gsub(",", "", $1); sum += $1 } END { print sum + 0 }')
+  inside=$(callgrind_annotate "$work/out" | awk '/block256::compress|steps::step4|steps::step_leaves|states::absorb4/ { gsub(",", "", $1); sum += $1 } END { print sum + 0 }')
   all=$(awk '/^(summary|totals):/ { print $2; exit }' "$work/out")
   echo "$calls $inside $all"
 }

@@ -39,6 +39,7 @@ broken_run sig = record {
   script = four_alone;
   traces =
       trace_with 0 [] ∷ trace_with 1 (Entry.Heard (Origin.Replica (member 2) 0) (prepare_with sig) ∷ []) ∷ trace_with 2 [] ∷ trace_with 3 [] ∷ [];
+  moments = [];
   timeouts_left = 0;
 }
 

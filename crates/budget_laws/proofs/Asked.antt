@@ -1,6 +1,6 @@
 -- What a primary proposed was asked by the script, so it is no more than the script asks; and at a moment at which nothing is on its way, all
 -- that the script asks of a client and that wasn't proposed is eligible.
-use Rattle.std.proofs.Common.{◌≡◌, ℕ, ◌+◌, ◌-◌, ◌<◌, ◌≤◌, Bool, true, false, cond, ◌&&◌, nat_le, nat_eq, List, [], ◌∷◌, ◌++◌, filter, length, append_assoc, None, ◌⊎◌, inl, inr, refl, sym, ap, subst, ◌∙◌, arith}
+use Rattle.std.proofs.Common.{Option, ◌≡◌, ℕ, ◌+◌, ◌-◌, ◌<◌, ◌≤◌, Bool, true, false, cond, ◌&&◌, nat_le, nat_eq, List, [], ◌∷◌, ◌++◌, filter, length, append_assoc, None, ◌⊎◌, inl, inr, refl, sym, ap, subst, ◌∙◌, arith}
 use Rattle.std.specs.Prelude.{slice_index}
 use Rattle.std.specs.List.{list_all, range_with_len}
 use Rattle.std.specs.Option.{is_some}
@@ -34,6 +34,9 @@ use Rattle.run_words.specs.declared.logs.Transcript.{Transcript}
 use Rattle.script_keys.specs.Requests.{asked}
 use Rattle.script_keys.proofs.Wishes.{asked_in}
 use Rattle.script_keys.proofs.Wishes as wishes
+use Rattle.run_worlds.proofs.Untroubled.{none_faulty}
+use Rattle.fault_script.specs.declared.twists.Fault.{Fault}
+use Rattle.std.specs.Option.{is_some}
 use Rattle.run_worlds.specs.Scripts.{roster_of, makers_of}
 use Rattle.run_worlds.specs.Worlds.{world_of}
 use Rattle.run_worlds.specs.Sights.{first_evidence}
@@ -191,7 +194,7 @@ module _ (t : Transcript) (run : IsRunOf t.script t) (one : length t.script.size
       let for_all : IsAskedFor (full_at t 0) (Message.PrePrepare o.proposal) = ((voiced t run one).heeds 0 some).are.asked (Message.PrePrepare o.proposal) o.said in
       let heard = for_all x (subst (In x) (sym o.batch_is) j.inside) in
       let early = heard_before ((world_of t).diary (member 0)) (statements_in (member 0) (state_at t 0).outbox) (Message.Request x) heard in
-      let correct : IsCorrect (world_of t) (member 0) = record { takes_part = member_known; not_faulty = refl } in
+      let correct : IsCorrect (world_of t) (member 0) = record { takes_part = member_known; not_faulty = ap (λ (f : Option Fault). is_some f) (none_faulty t.script (member 0)) } in
       let made : IsMade (world_of t) (Message.Request x) =
       all_made t (logs_of t run) run.lawful.delivered (member 0) correct (Message.Request x) early (Message.Request x) (inl refl) in
       let m = of_map (λ (w : Wish). asked w []) (record x { sig = [] }) (filter (λ (w : Wish). nat_eq w.client.number x.client.number) t.script.requests) (made refl) in

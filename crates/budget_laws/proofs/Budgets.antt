@@ -1,5 +1,5 @@
 -- The one run of a script whose keys and turns are enough ends done.
-use Rattle.std.proofs.Common.{◌≡◌, ℕ, ◌+◌, ◌*◌, ◌<◌, ◌≤◌, Bool, true, false, cond, not, nat_le, List, [], ◌∷◌, length, sum, Option, Some, None, ◌⊎◌, inl, inr, refl, ap, subst, ◌∙◌, arith}
+use Rattle.std.proofs.Common.{◌≡◌, ℕ, ◌+◌, ◌*◌, ◌≤◌, Bool, true, false, cond, not, nat_le, List, [], ◌∷◌, length, sum, Option, Some, None, ◌⊎◌, inl, inr, refl, ap, subst, ◌∙◌, arith, sym, append-nil}
 use Rattle.std.specs.Prelude.{slice_index}
 use Rattle.std.specs.List.{find}
 use Rattle.std.proofs.Math.Nat.{mul_assoc, mul-le-mul_left, mul-le-mul_right, one-mul, mul-one}
@@ -9,14 +9,14 @@ use Rattle.fab_rules.specs.Lists.{In}
 use Rattle.fault_script.specs.declared.scripts.Script.{Script}
 use Rattle.fault_script.specs.declared.scripts.Wish.{Wish}
 use Rattle.fault_script.specs.Scripts.{keeps_limits}
-use Rattle.world_laws.specs.World.{NoClash}
 use Rattle.run_words.specs.Lawful.{entries_of}
-use Rattle.run_words.specs.Runs.{IsSchedule}
+use Rattle.run_words.specs.Runs.{HasEnded, IsSchedule, Phase, after, transcript}
+use Rattle.run_words.proofs.Ending.{told_with}
+use Rattle.run_words.proofs.Moments.{noted_by}
 use Rattle.run_words.specs.declared.ends.End.{End}
 use Rattle.run_words.specs.declared.ends.Evidence.{Evidence}
 use Rattle.run_words.specs.declared.logs.Transcript.{Transcript}
 use Rattle.run_worlds.specs.Scripts.{roster_of, script_rules}
-use Rattle.run_worlds.specs.Worlds.{world_of}
 use Rattle.run_worlds.specs.Sights.{first_evidence}
 use Rattle.run_worlds.specs.Endings.{is_effective, first_missing, IsRunOf, IsEnd, IsEndBy}
 use Rattle.run_worlds.proofs.RunLogs.{logs_of}
@@ -26,8 +26,7 @@ use Rattle.run_laws.proofs.Unforged.{no_signer_named}
 use Rattle.plain_laws.specs.Plain.{IsClash, HasSpent, HasCause}
 use Rattle.plain_laws.proofs.Ends.{ends, one_cluster}
 use Rattle.budget_laws.specs.Budgets.{rounds_of, replicas_in, FitsScript, BudgetLaw}
-use Rattle.budget_laws.specs.Opened.{state_at, full_at, slots_opened}
-use Rattle.budget_laws.specs.Proposals.{IsThrifty}
+use Rattle.budget_laws.specs.Opened.{slots_opened}
 use Rattle.budget_laws.proofs.Entries.{few_entries}
 use Rattle.budget_laws.proofs.Prefixes.{at_step, run_of}
 use Rattle.budget_laws.proofs.Rounds.{leaves_are, rounds_few}
@@ -126,7 +125,15 @@ by_end script n spent (End.Spent count) few limits fits schedule h =
       | inr cause ↦ inr (no_cause script limits fits n one h.0 (End.Spent count) cause)
     ]
 
+-- the transcript of a run that has ended is what it told so far
+told_ended : (script : Script) (n : ℕ) (spent : Bool) → HasEnded (after (script_rules script) n) spent
+    → transcript (script_rules script) (after (script_rules script) n) ≡ at_step script n
+told_ended script n spent e =
+    let run = after (script_rules script) n in
+    ap (told_with (script_rules script) run) (sym (ap (λ (p : Phase). noted_by run p) e ∙ append-nil run.moments))
+
 pub within_budget : BudgetLaw
 within_budget script t spent end few limits fits schedule h =
+    let is : t ≡ at_step script schedule.0 = schedule.2 ∙ told_ended script schedule.0 spent schedule.1 in
     by_end script schedule.0 spent end few limits fits
-    (subst (λ x. IsSchedule (script_rules script) x spent) schedule.2 schedule) (subst (λ x. IsEnd x end) schedule.2 h)
+    (subst (λ x. IsSchedule (script_rules script) x spent) is schedule) (subst (λ x. IsEnd x end) is h)

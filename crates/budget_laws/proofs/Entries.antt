@@ -1,8 +1,8 @@
 -- How many entries all journals of a run of one cluster have: each hearing is of a copy that was put, and a replica puts one copy at most of an
 -- item to each.
-use Rattle.std.proofs.Common.{◌≡◌, ℕ, zero, suc, ◌+◌, ◌*◌, ◌-◌, ◌<◌, ◌≤◌, Bool, true, false, cond, ◌&&◌, nat_le, List, [], ◌∷◌, ◌++◌, length, map, inl, inr, refl, sym, ap, subst, ◌∙◌, append_assoc, append-nil, zero-add, arith, sum_by}
+use Rattle.std.proofs.Common.{◌≡◌, ℕ, zero, suc, ◌+◌, ◌*◌, ◌-◌, ◌<◌, ◌≤◌, Bool, true, false, cond, ◌&&◌, nat_le, List, [], ◌∷◌, ◌++◌, length, map, Option, None, inl, inr, refl, sym, ap, subst, ◌∙◌, append_assoc, append-nil, zero-add, arith, sum_by}
 use Rattle.std.specs.Prelude.{IsTrue, slice_index}
-use Rattle.std.specs.List.{count_by, range_with_len}
+use Rattle.std.specs.List.{range_with_len}
 use Rattle.std.proofs.Math.Nat.{mul_comm, mul-add, suc-mul}
 use Rattle.std.proofs.lemmas.List.FromFn.{length-map-range_with_len}
 use Rattle.std.proofs.lemmas.List.Sums.{sum_by-append, sum_by-cons}
@@ -12,13 +12,12 @@ use Rattle.fab_base.specs.declared.ids.ReplicaId.{ReplicaId}
 use Rattle.fab_base.specs.declared.answers.Item.{Item}
 use Rattle.fab_base.proofs.Tests.{and_left, and_right, below, at_most}
 use Rattle.fab_rules.specs.Lists.{In, first_of}
-use Rattle.fab_rules.specs.Spelling.{spelling_of}
 use Rattle.fault_script.specs.declared.scripts.Script.{Script}
 use Rattle.fault_script.specs.declared.scripts.Wish.{Wish}
 use Rattle.heed_laws.specs.Heeding.{IsOutgoing}
 use Rattle.heed_laws.specs.Resting.{member}
 use Rattle.run_words.specs.Keyed.{is_same, of}
-use Rattle.run_words.specs.Journal.{Maker, state, walk, put, added, parcels_of, signed_of, item_by, next_item, IsNext, IsMadeFrom, IsMade as IsReplayed, AreSound}
+use Rattle.run_words.specs.Journal.{Maker, Walk, state, walk, null_beside, copies, added, parcels_of, signed_of, item_by, next_item, IsNext, IsMadeFrom, IsMade as IsReplayed, AreSound}
 use Rattle.run_words.specs.Lawful.{AreEach, Kept, Test, IsDelivered, pending_counted, heard_once, heard_counted, parcels_counted}
 use Rattle.run_words.specs.declared.logs.Entry.{Entry}
 use Rattle.run_words.specs.declared.logs.Parcel.{Parcel}
@@ -28,13 +27,21 @@ use Rattle.run_words.specs.declared.logs.Transcript.{Transcript}
 use Rattle.run_words.proofs.Keys.{same_is, same_self, other_turned, of-append}
 use Rattle.run_words.proofs.Walks.{parcels_more, made_more, sound_more}
 use Rattle.script_keys.specs.Keys.{members_of, replicas_from, replicas_of}
-use Rattle.script_keys.specs.Requests.{request_of, pending_of, receivers_of, copies_to, copies_from}
+use Rattle.script_keys.specs.Requests.{request_of, pending_of, receivers_of, copies_to}
+use Rattle.script_keys.specs.Requests as asking
 use Rattle.run_worlds.specs.Scripts.{roster_of, maker_of, script_rules}
 use Rattle.run_worlds.specs.Endings.{IsRunOf}
 use Rattle.run_worlds.proofs.ScriptLimits.{within_limits}
 use Rattle.audit_laws.proofs.Members.{AreDistinct, apart_if, replicas_are_distinct, takes_part}
 use Rattle.plain_laws.specs.Plain.{journal_by}
 use Rattle.plain_laws.proofs.Members.{journal_heedful}
+use Rattle.plain_laws.proofs.Plainness.{ArePlainEntries, run_plain}
+use Rattle.run_worlds.proofs.Untroubled.{none_faulty, no_losses}
+use Rattle.run_words.specs.Twists.{Copy, is_proposal, copy_as, copies_from, passes, shares_of, parcel_of, put}
+use Rattle.fault_script.specs.declared.twists.Fault.{Fault}
+use Rattle.fault_script.specs.declared.twists.Loss.{Loss}
+use Rattle.fab_base.specs.declared.messages.Message.{Message}
+use Rattle.fab_rules.proofs.Lists.{in_append_left}
 use Rattle.budget_laws.specs.Opened.{slots_opened, number_moved, is_sending, number_sent, EntriesLaw}
 use Rattle.budget_laws.proofs.Voicing.{moves_few, sendings_few}
 
@@ -51,12 +58,17 @@ parts (Entry.Sent item ∷ rest) = omega (arith, parts rest, sum_by-cons (λ e. 
 parts (Entry.Proposed ∷ rest) = omega (arith, parts rest, sum_by-cons (λ e. heard_once always e) Entry.Proposed rest)
 parts (Entry.Nudged ∷ rest) = omega (arith, parts rest, sum_by-cons (λ e. heard_once always e) Entry.Nudged rest)
 parts (Entry.Executed ∷ rest) = omega (arith, parts rest, sum_by-cons (λ e. heard_once always e) Entry.Executed rest)
+parts (Entry.TimedOut ∷ rest) = omega (arith, parts rest, sum_by-cons (λ e. heard_once always e) Entry.TimedOut rest)
 parts (Entry.Marked ∷ rest) = omega (arith, parts rest, sum_by-cons (λ e. heard_once always e) Entry.Marked rest)
 
 -- ---- how often a replica stands among receivers
 
 abbrev is_to : ReplicaId → ReplicaId → ℕ
 is_to to i = cond (is_same to i && true) 1 0
+
+-- how often a parcel passes to it
+abbrev passing : ReplicaId → Parcel → ℕ
+passing to q = cond (is_same to q.to && true) q.passes 0
 
 abbrev times : ReplicaId → List ReplicaId → ℕ
 times to ids = sum_by (λ i. is_to to i) ids
@@ -102,14 +114,34 @@ once to cluster a (suc n) = go (once to cluster (a + 1) n) (is_same to (member_i
 
 -- ---- the parcels of a journal to a replica
 
+-- where nothing is lost or repeated each copy passes once
+passes_once : (from to : ReplicaId) (share : Bool) (a b : ℕ) → passes [] from to share a b ≡ 1
+unfolding passes
+passes_once from to share a b = refl
+
 -- an item has a parcel for each receiver
-put_times : (to from : ReplicaId) (time : ℕ) (bytes : List ℕ) (earlier : List Parcel) (receivers : List ReplicaId)
-    → parcels_counted always to from (put time bytes earlier receivers) ≡ times to receivers
-put_times to from time bytes earlier [] = refl
-put_times to from time bytes earlier (r ∷ rest) =
-    let p : Parcel = record { to = r; number = count_by (λ q. is_same r q.to) earlier; time = time; bytes = bytes; passes = 1 } in
-    sum_by-cons (λ (q : Parcel). is_to to q.to) p (put time bytes (earlier ++ p ∷ []) rest)
-    ∙ (ap (λ k. is_to to r + k) (put_times to from time bytes (earlier ++ p ∷ []) rest) ∙ sym (sum_by-cons (λ i. is_to to i) r rest))
+put_times : (to from me : ReplicaId) (time : ℕ) (earlier : List Parcel) (shares : List ReplicaId) (proposal : Bool) (beside : Option Message) (x : Message)
+    (receivers : List ReplicaId) → parcels_counted always to from (put me [] None time earlier shares (copies_from None proposal beside x receivers)) ≡ times to receivers
+put_times to from me time earlier shares proposal beside x [] = refl
+put_times to from me time earlier shares proposal beside x (r ∷ rest) =
+    let c : Copy = copy_as x r x in
+    let p : Parcel = parcel_of me [] None time earlier shares c in
+    let later : List Parcel = put me [] None time (earlier ++ p ∷ []) (shares ++ shares_of (c ∷ [])) (copies_from None proposal beside x rest) in
+    sum_by-cons (λ (q : Parcel). passing to q) p later
+    ∙ (ap (λ k. cond (is_same to r && true) k 0 + parcels_counted always to from later) (passes_once me r c.share _ _)
+    ∙ (ap (λ k. is_to to r + k) (put_times to from me time (earlier ++ p ∷ []) (shares ++ shares_of (c ∷ [])) proposal beside x rest)
+    ∙ sym (sum_by-cons (λ i. is_to to i) r rest)))
+
+sent_times : (m : Maker) (w : Walk) (item : Item) (to : ReplicaId) → m.fault ≡ None → m.losses ≡ []
+    → parcels_counted always to m.id (added m w (Entry.Sent item)) ≡ times to item.to
+unfolding added copies
+sent_times m w item to plain whole =
+    let x = item.message in
+    let proposal = is_proposal m.id x in
+    let beside = null_beside m (length w.signed) x in
+    subst (λ (f : Option Fault). parcels_counted always to m.id (put m.id m.losses f w.clock w.parcels w.shares (copies_from f proposal beside x item.to)) ≡ times to item.to) (sym plain)
+    (subst (λ (l : List Loss). parcels_counted always to m.id (put m.id l None w.clock w.parcels w.shares (copies_from None proposal beside x item.to)) ≡ times to item.to) (sym whole)
+    (put_times to m.id m.id w.clock w.parcels w.shares proposal beside x item.to))
 
 -- what waits first goes to each once at most
 item_once : (m : Maker) (k : ℕ) (to : ReplicaId) (waiting : List Item) → ((i : Item) → In i waiting → IsOutgoing m.roster m.id i)
@@ -120,47 +152,49 @@ item_once m k to (i ∷ rest) out = elim (out i (inl refl)).to [
   | inr note ↦ subst (λ ids. times to ids ≤ 1) (sym note.1) (omega arith)
 ]
 
-module _ (m : Maker) (limits : IsWithinLimits m.roster) (known : IsTrue (is_replica m.roster m.id)) (to : ReplicaId) where
+module _ (m : Maker) (limits : IsWithinLimits m.roster) (one : length m.roster.sizes ≡ 1) (known : IsTrue (is_replica m.roster m.id))
+    (fault : m.fault ≡ None) (losses : m.losses ≡ []) (to : ReplicaId) where
   abbrev counted : List Parcel → ℕ
   counted parcels = parcels_counted always to m.id parcels
 
   -- an entry puts one parcel to it at most, and only where it is a sending
-  added_few : (earlier : List Entry) (e : Entry) → IsReplayed m earlier → AreSound m earlier → IsNext m earlier e
+  added_few : (earlier : List Entry) (e : Entry) → IsReplayed m earlier → AreSound m earlier → ArePlainEntries earlier → IsNext m earlier e
       → counted (added m (walk m earlier) e) ≤ is_sending e
-  unfolding added next_item
-  added_few earlier (Entry.Sent item) made sound next =
-      let few = item_once m (length (signed_of m earlier)) to (state m earlier).outbox (journal_heedful m earlier limits known made sound).are.outgoing in
-      let one : times to item.to ≤ 1 = subst (λ (i : Item). times to i.to ≤ 1) (sym next.1) few in
-      let w = walk m earlier in
-      subst (λ k. k ≤ 1) (sym (put_times to m.id w.clock (spelling_of item.message) w.parcels item.to)) one
-  added_few earlier (Entry.Heard origin x) made sound next = omega arith
-  added_few earlier Entry.Proposed made sound next = omega arith
-  added_few earlier Entry.Nudged made sound next = omega arith
-  added_few earlier Entry.Executed made sound next = omega arith
-  added_few earlier Entry.Marked made sound next = omega arith
+  unfolding added copies next_item
+  added_few earlier (Entry.Sent item) made sound plain next =
+      let few = item_once m (length (signed_of m earlier)) to (state m earlier).outbox (journal_heedful m earlier limits one known made sound plain).are.outgoing in
+      let once : times to item.to ≤ 1 = subst (λ (i : Item). times to i.to ≤ 1) (sym next.1) few in
+      subst (λ k. k ≤ 1) (sym (sent_times m (walk m earlier) item to fault losses)) once
+  added_few earlier (Entry.Heard origin x) made sound plain next = omega arith
+  added_few earlier Entry.Proposed made sound plain next = omega arith
+  added_few earlier Entry.Nudged made sound plain next = omega arith
+  added_few earlier Entry.Executed made sound plain next = omega arith
+  added_few earlier Entry.Marked made sound plain next = omega arith
+  added_few earlier Entry.TimedOut made sound plain next = omega arith
 
   counted_both : (a b : List Parcel) → counted (a ++ b) ≡ counted a + counted b
-  counted_both a b = sum_by-append (λ (q : Parcel). is_to to q.to) a b
+  counted_both a b = sum_by-append (λ (q : Parcel). passing to q) a b
 
   -- along the journal
-  few_from : (earlier rest : List Entry) → IsReplayed m earlier → AreSound m earlier → IsMadeFrom m earlier rest → AreSound m rest
+  few_from : (earlier rest : List Entry) → IsReplayed m earlier → AreSound m earlier → IsMadeFrom m earlier rest → AreSound m rest → ArePlainEntries (earlier ++ rest)
       → counted (parcels_of m (earlier ++ rest)) ≤ counted (parcels_of m earlier) + number_sent rest
-  few_from earlier [] made sound next heard = omega (arith, ap (λ j. counted (parcels_of m j)) (append-nil earlier))
-  few_from earlier (e ∷ rest) made sound next heard =
-      let later = few_from (earlier ++ e ∷ []) rest (made_more m earlier e made next.0) (sound_more m earlier e sound heard.0) next.1 heard.1 in
+  few_from earlier [] made sound next heard plain = omega (arith, ap (λ j. counted (parcels_of m j)) (append-nil earlier))
+  few_from earlier (e ∷ rest) made sound next heard plain =
+      let later = few_from (earlier ++ e ∷ []) rest (made_more m earlier e made next.0) (sound_more m earlier e sound heard.0) next.1 heard.1
+      (subst (λ j. ArePlainEntries j) (sym (append_assoc earlier (e ∷ []) rest)) plain) in
       let joined = ap (λ j. counted (parcels_of m j)) (append_assoc earlier (e ∷ []) rest) in
       let more = ap counted (parcels_more m earlier e) ∙ counted_both (parcels_of m earlier) (added m (walk m earlier) e) in
-      omega (arith, later, joined, more, added_few earlier e made sound next.0)
+      omega (arith, later, joined, more, added_few earlier e made sound (λ x i. plain x (in_append_left x earlier (e ∷ rest) i)) next.0)
 
   none_put : parcels_of m [] ≡ []
   unfolding walk
   none_put = refl
 
   -- they are no more than its sendings
-  parcels_few : (journal : List Entry) → IsReplayed m journal → AreSound m journal → counted (parcels_of m journal) ≤ number_sent journal
-  parcels_few journal made sound =
+  parcels_few : (journal : List Entry) → IsReplayed m journal → AreSound m journal → ArePlainEntries journal → counted (parcels_of m journal) ≤ number_sent journal
+  parcels_few journal made sound plain =
       let none : counted (parcels_of m []) ≡ 0 = ap counted none_put in
-      omega (arith, none, few_from [] journal tt tt made sound)
+      omega (arith, none, few_from [] journal tt tt made sound plain)
 
 -- ---- the copies of requests to a replica
 
@@ -185,12 +219,12 @@ one_more to here later n a b =
 
 -- one of each request at most
 requests_few : (script : Script) (to : ReplicaId) (k : ℕ) (wishes : List Wish)
-    → pending_counted always (of to (copies_from script k (map (request_of script) wishes))) ≤ length wishes
+    → pending_counted always (of to (asking.copies_from script k (map (request_of script) wishes))) ≤ length wishes
 requests_few script to k [] = omega arith
 requests_few script to k (w ∷ wishes) =
     let r = request_of script w in
     let home = slice_index script.homes r.client.number in
-    one_more to (copies_to (pending_of k r) (receivers_of script r)) (copies_from script (k + 1) (map (request_of script) wishes)) (length wishes)
+    one_more to (copies_to (pending_of k r) (receivers_of script r)) (asking.copies_from script (k + 1) (map (request_of script) wishes)) (length wishes)
     (subst (λ n. n ≤ 1) (sym (copies_times to (pending_of k r) (receivers_of script r))) (once to home 0 (slice_index script.sizes (home - 1))))
     (requests_few script to (k + 1) wishes)
 
@@ -299,8 +333,8 @@ module _ (t : Transcript) (run : IsRunOf t.script t) (one : length t.script.size
   put_few : (to : ReplicaId) (trace : Trace) → In trace t.traces → parcels_counted always to trace.id trace.parcels ≤ 5 * opened
   put_few to trace there =
       let own = here trace there in
-      let few = parcels_few (maker_of t.script trace.id) (within_limits t.script run.limits) (takes_part t.script trace.id own.listed) to trace.journal
-      own.kept.replays own.kept.sound in
+      let few = parcels_few (maker_of t.script trace.id) (within_limits t.script run.limits) one (takes_part t.script trace.id own.listed)
+      (none_faulty t.script trace.id) (no_losses t.script) to trace.journal own.kept.replays own.kept.sound (run_plain t run one trace there) in
       omega (arith, few, ap (parcels_counted always to trace.id) own.kept.parcels, sent_few trace there)
 
   -- and heard no more than was put to it

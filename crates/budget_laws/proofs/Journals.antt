@@ -29,6 +29,10 @@ use Rattle.run_worlds.specs.Scripts.{maker_of}
 use Rattle.run_worlds.specs.Worlds.{diary_in}
 use Rattle.plain_laws.specs.Plain.{journal_by}
 use Rattle.budget_laws.proofs.Moments.{IsMoment, IsStepOf}
+use Rattle.heed_laws.specs.Heeding.{IsPlain}
+use Rattle.plain_laws.proofs.Members.{plain_events}
+use Rattle.plain_laws.proofs.Plainness.{ArePlainEntries}
+use Rattle.fab_rules.proofs.Lists.{in_append_left, in_append_right}
 use Rattle.budget_laws.proofs.Putting.{proposed_by, silent, proposes, AllOwn, own_kept, none_known}
 
 -- ---- the journal of a replica in the transcript of a run
@@ -93,13 +97,13 @@ diary_one m journal e made now =
 
 -- ---- certificates are of the own cluster
 
-own_from : (r : Roster) (me : ReplicaId) (s : Replica) (es : List Event) → AllOwn me s.rounds → AllOwn me (state_from r me s es).rounds
-own_from r me s [] h = h
-own_from r me s (e ∷ es) h = own_from r me (step r me s e).state es (own_kept r me s e h)
+own_from : (r : Roster) (me : ReplicaId) (s : Replica) (es : List Event) → ((e : Event) → In e es → IsPlain e) → AllOwn me s.rounds → AllOwn me (state_from r me s es).rounds
+own_from r me s [] plain h = h
+own_from r me s (e ∷ es) plain h = own_from r me (step r me s e).state es (λ x i. plain x (inr i)) (own_kept r me s e (plain e (inl refl)) h)
 
-pub all_own : (m : Maker) (journal : List Entry) → AllOwn m.id (state m journal).rounds
+pub all_own : (m : Maker) (journal : List Entry) → ArePlainEntries journal → AllOwn m.id (state m journal).rounds
 unfolding state
-all_own m journal = own_from m.roster m.id (fresh m.roster m.id) (map event_of journal) (λ k h. absurd h)
+all_own m journal plain = own_from m.roster m.id (fresh m.roster m.id) (map event_of journal) (plain_events journal plain) (λ k h. absurd h)
 
 -- ---- what is proposed by a journal
 
@@ -136,7 +140,7 @@ nudge_made : (m : Maker) (journal : List Entry) → moves m journal Mover.Nudge 
 unfolding moves
 nudge_made m journal h = h
 
-module _ (Still : Type 0) (m : Maker) (journal : List Entry) (made : IsReplayed m journal) where
+module _ (Still : Type 0) (m : Maker) (journal : List Entry) (made : IsReplayed m journal) (plain : ArePlainEntries journal) where
   abbrev grown : Entry → List (List Request)
   grown e = proposed_by m.id (step m.roster m.id (state m journal) (event_of e)).state
       (diary_after m.id (state m journal) (event_of e) (step m.roster m.id (state m journal) (event_of e)).state (diary m journal))
@@ -147,27 +151,30 @@ module _ (Still : Type 0) (m : Maker) (journal : List Entry) (made : IsReplayed 
       ∙ ap (proposed_by m.id (step m.roster m.id (state m journal) (event_of e)).state) (diary_one m journal e made now)
 
   none_else : knows_others m.id.cluster (state m journal).rounds.certificates (state m journal).local.next ≡ false
-  none_else = none_known m.id (state m journal).rounds.certificates (state m journal).local.next (all_own m journal)
+  none_else = none_known m.id (state m journal).rounds.certificates (state m journal).local.next (all_own m journal plain)
 
-  one_entry : (e : Entry) → IsReplayed m (journal ++ e ∷ []) → IsNext m journal e → IsMoment Still e
+  one_entry : (e : Entry) → IsPlain (event_of e) → IsReplayed m (journal ++ e ∷ []) → IsNext m journal e → IsMoment Still e
       → (batches_by m (journal ++ e ∷ []) ≡ batches_by m journal) ⊎ HasBatch Still m journal (journal ++ e ∷ [])
-  one_entry Entry.Proposed now next_is moment =
+  one_entry Entry.Proposed p_e now next_is moment =
       let p = proposes m.roster m.id (state m journal) (diary m journal) false (move_made m journal next_is) in
       inr (record { one_more = grown_is Entry.Proposed now ∙ p.one_more; full = inl (due_full m.roster.batch (length (eligible (state m journal).local)) _ none_else p.due) })
-  one_entry Entry.Nudged now next_is moment =
+  one_entry Entry.Nudged p_e now next_is moment =
       let p = proposes m.roster m.id (state m journal) (diary m journal) true (nudge_made m journal next_is) in
       inr (record {
         one_more = grown_is Entry.Nudged now ∙ p.one_more;
         full = elim (due_some m.roster.batch (length (eligible (state m journal).local)) _ none_else p.due) [ inl k ↦ inl k | inr k ↦ inr (moment, k) ];
       })
-  one_entry (Entry.Heard origin x) now next_is moment = inl (grown_is (Entry.Heard origin x) now ∙ silent m.roster m.id (state m journal) (diary m journal) (event_of (Entry.Heard origin x)) tt)
-  one_entry (Entry.Sent item) now next_is moment = inl (grown_is (Entry.Sent item) now ∙ silent m.roster m.id (state m journal) (diary m journal) (event_of (Entry.Sent item)) tt)
-  one_entry Entry.Executed now next_is moment = inl (grown_is Entry.Executed now ∙ silent m.roster m.id (state m journal) (diary m journal) Event.Execute tt)
-  one_entry Entry.Marked now next_is moment = inl (grown_is Entry.Marked now ∙ silent m.roster m.id (state m journal) (diary m journal) Event.Checkpoint tt)
+  one_entry (Entry.Heard origin x) p_e now next_is moment = inl (grown_is (Entry.Heard origin x) now ∙ silent m.roster m.id (state m journal) (diary m journal) (event_of (Entry.Heard origin x)) p_e tt)
+  one_entry (Entry.Sent item) p_e now next_is moment = inl (grown_is (Entry.Sent item) now ∙ silent m.roster m.id (state m journal) (diary m journal) (event_of (Entry.Sent item)) tt tt)
+  one_entry Entry.Executed p_e now next_is moment = inl (grown_is Entry.Executed now ∙ silent m.roster m.id (state m journal) (diary m journal) Event.Execute tt tt)
+  one_entry Entry.Marked p_e now next_is moment = inl (grown_is Entry.Marked now ∙ silent m.roster m.id (state m journal) (diary m journal) Event.Checkpoint tt tt)
+  one_entry Entry.TimedOut p_e now next_is moment = absurd p_e
 
-pub one_step : (Still : Type 0) (m : Maker) (before now : List Entry) → IsReplayed m before → IsReplayed m now → IsStepOf Still m before now
+pub one_step : (Still : Type 0) (m : Maker) (before now : List Entry) → IsReplayed m before → IsReplayed m now → ArePlainEntries now → IsStepOf Still m before now
     → (batches_by m now ≡ batches_by m before) ⊎ HasBatch Still m before now
-one_step Still m before now made made_now (inl same) = inl (ap (batches_by m) same)
-one_step Still m before now made made_now (inr h) =
+one_step Still m before now made made_now plain (inl same) = inl (ap (batches_by m) same)
+one_step Still m before now made made_now plain (inr h) =
+    let all : ArePlainEntries (before ++ h.entry ∷ []) = subst (λ j. ArePlainEntries j) h.grown plain in
     subst (λ j. (batches_by m j ≡ batches_by m before) ⊎ HasBatch Still m before j) (sym h.grown)
-    (one_entry Still m before made h.entry (subst (IsReplayed m) h.grown made_now) h.next_is h.moment)
+    (one_entry Still m before made (λ x i. all x (in_append_left x before (h.entry ∷ []) i)) h.entry
+    (all h.entry (in_append_right h.entry before (h.entry ∷ []) (inl refl))) (subst (IsReplayed m) h.grown made_now) h.next_is h.moment)

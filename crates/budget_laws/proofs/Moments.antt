@@ -5,13 +5,13 @@ use Rattle.fab_base.specs.declared.messages.Message.{Message}
 use Rattle.bft_verify.specs.declared.refusals.Refusal.{Refusal}
 use Rattle.run_words.specs.Keyed.{is_same}
 use Rattle.run_words.specs.Journal.{Maker, moves, entry_of, IsNext, reads}
-use Rattle.run_words.specs.Runs.{Rules, Run, Phase, Step, journal_in, waiting_in, hearings, moving, steps_of, steps_from, with_entry, give, hear, hear_by, taken_out, steps, pick_from, take_step, next, next_in, is_spent, after}
+use Rattle.run_words.specs.Runs.{Rules, Line, Run, Phase, Step, again, over, ended, by_patience, look, is_due, journal_in, waiting_in, hearings, moving, steps_of, steps_from, with_entry, give, hear, hear_by, taken_out, steps, pick_from, take_step, next, next_in, is_spent, after}
 use Rattle.run_words.specs.Lawful.{IsApart, AreApart, Sane}
 use Rattle.run_words.specs.declared.movers.Mover.{Mover}
 use Rattle.run_words.specs.declared.logs.Entry.{Entry}
 use Rattle.run_words.specs.declared.logs.Pending.{Pending}
 use Rattle.run_words.proofs.Counts.{IsIn, one_by_id, journal_more, journal_other}
-use Rattle.run_words.proofs.Keeping.{AreStill, Stands, phase_give, phase_hear, after_well}
+use Rattle.run_words.proofs.Keeping.{AreStill, Stands, stepped, after_well}
 use Rattle.run_words.proofs.Keys.{same_self}
 use Rattle.run_words.proofs.Steps.{IsStep, AreSteps, step_at, steps_made}
 use Rattle.run_words.proofs.Walks.{entry_next}
@@ -109,12 +109,13 @@ no_nudge Still m journal Mover.Nudge h = absurd h
 no_nudge Still m journal Mover.Emit h = tt
 no_nudge Still m journal Mover.Execute h = tt
 no_nudge Still m journal Mover.Checkpoint h = tt
+no_nudge Still m journal Mover.Timeout h = tt
 
 -- ---- the first replica
 
 -- no one was moved when it is nudged, and then it is nudged no more
 abbrev IsFirst : Maker → List Maker → Phase → Type 0
-IsFirst p makers (Phase.Nudging l moved) = ((l ≡ makers) × (moved ≡ false)) ⊎ IsApart p l
+IsFirst p makers (Phase.Nudging at l moved) = ((l ≡ makers) × (moved ≡ false)) ⊎ IsApart p l
 IsFirst p makers phase = Unit {0}
 
 module _ (r : Rules) (p : Maker) (others : List Maker) (first : r.makers ≡ p ∷ others) (s : Sane r) where
@@ -132,7 +133,7 @@ module _ (r : Rules) (p : Maker) (others : List Maker) (first : r.makers ≡ p �
 
   taken : (Still : Type 0) (run : Run) (x : Step) → IsStep r run x → IsPicked x → IsStepOf Still p (journal_in run p) (journal_in (take_step run x) p)
   taken Still run (Step.Hear m k c) h q = hear_one Still p m k c run (one m h.0)
-  taken Still run (Step.Give m mover) h q = give_one Still p m mover run (one m h) (λ e. no_nudge Still m (journal_in run m) mover q)
+  taken Still run (Step.Give m mover) h q = give_one Still p m mover run (one m h.0) (λ e. no_nudge Still m (journal_in run m) mover q)
 
   picked : (Still : Type 0) (run : Run) (l : List Step) → AreSteps r run l → ArePicked l → IsStepOf Still p (journal_in run p) (journal_in (pick_from r run l) p)
   picked Still run [] a q = inl refl
@@ -140,65 +141,100 @@ module _ (r : Rules) (p : Maker) (others : List Maker) (first : r.makers ≡ p �
       let k = r.word run.picks % length (x ∷ rest) in
       taken_at run (get_or (x ∷ rest) k x) (step_at r run (x ∷ rest) k x a a.0) (picked_at (x ∷ rest) k x q q.0)
     where
-      taken_at : (run : Run) (x : Step) → IsStep r run x → IsPicked x → IsStepOf Still p (journal_in run p) (journal_in (take_step (record run { picks = run.picks + 1 }) x) p)
-      taken_at run (Step.Hear m k c) h q = hear_one Still p m k c (record run { picks = run.picks + 1 }) (one m h.0)
+      taken_at : (run : Run) (x : Step) → IsStep r run x → IsPicked x → IsStepOf Still p (journal_in run p) (journal_in (take_step (again (record run { picks = run.picks + 1 })) x) p)
+      taken_at run (Step.Hear m k c) h q = hear_one Still p m k c (again (record run { picks = run.picks + 1 })) (one m h.0)
       taken_at run (Step.Give m mover) h q =
-          give_one Still p m mover (record run { picks = run.picks + 1 }) (one m h) (λ e. no_nudge Still m (journal_in run m) mover q)
+          give_one Still p m mover (again (record run { picks = run.picks + 1 })) (one m h.0) (λ e. no_nudge Still m (journal_in run m) mover q)
 
-  listed : (run : Run) (m : Maker) (rest : List Maker) (moved : Bool) → Stands r run (Phase.Nudging (m ∷ rest) moved) → IsIn m r.makers
-  listed run m rest true h = h m (inl refl)
-  listed run m rest false h = h.0 m (inl refl)
+  still_then : (run : Run) (at : List ℕ) (m : Maker) (rest : List Maker) (moved : Bool) → Stands r run (Phase.Nudging at (m ∷ rest) moved)
+      → IsFirst p r.makers (Phase.Nudging at (m ∷ rest) moved) → p ≡ m → AreStill r run
+  still_then run at m rest moved h (inl f) e = h.still f.1
+  still_then run at m rest moved h (inr apart) e = absurd (let q = apart.0 in let w : is_same p.id m.id ≡ true = subst (λ (y : Maker). is_same p.id y.id ≡ true) e (same_self p.id) in cc)
 
-  still_then : (run : Run) (m : Maker) (rest : List Maker) (moved : Bool) → Stands r run (Phase.Nudging (m ∷ rest) moved) → IsFirst p r.makers (Phase.Nudging (m ∷ rest) moved)
-      → p ≡ m → AreStill r run
-  still_then run m rest true h (inl f) e = absurd (let q = f.1 in cc)
-  still_then run m rest false h (inl f) e = h.1
-  still_then run m rest moved h (inr apart) e = absurd (let q = apart.0 in let w : is_same p.id m.id ≡ true = subst (λ (y : Maker). is_same p.id y.id ≡ true) e (same_self p.id) in cc)
+  by_left : (run : Run) (at : List ℕ) (left : ℕ) → IsStepOf (AreStill r run) p (journal_in run p) (journal_in (by_patience r run at left) p)
+  by_left run at zero = inl refl
+  by_left run at (suc left) = inl refl
+
+  looked : (run : Run) (kept : List Line) (line : Line) (rest : List Line) (b : Bool) → IsIn line.maker r.makers
+      → IsStepOf (AreStill r run) p (journal_in run p) (journal_in (look run kept line rest b) p)
+  looked run kept line rest true i = give_one (AreStill r run) p line.maker Mover.Timeout run (one line.maker i) (λ e. tt)
+  looked run kept line rest false i = inl refl
 
   by_phase : (run : Run) (phase : Phase) → Stands r run phase → IsFirst p r.makers phase → IsStepOf (AreStill r run) p (journal_in run p) (journal_in (next_in r run phase) p)
+  by_phase run (Phase.Lines kept []) h f = inl refl
+  by_phase run (Phase.Lines kept (line ∷ rest)) h f = go (is_spent r run)
+    where
+      go : (b : Bool) → IsStepOf (AreStill r run) p (journal_in run p) (journal_in (cond b (ended true run) (look run kept line rest (is_due run line))) p)
+      go true = inl refl
+      go false = looked run kept line rest (is_due run line) (h.1 line (inl refl))
   by_phase run Phase.Pick h f = go (is_spent r run)
     where
-      go : (b : Bool) → IsStepOf (AreStill r run) p (journal_in run p) (journal_in (cond b (record run { phase = Phase.Ended true }) (pick_from r run (steps r run))) p)
+      go : (b : Bool) → IsStepOf (AreStill r run) p (journal_in run p) (journal_in (cond b (ended true run) (pick_from r run (steps r run))) p)
       go true = inl refl
       go false = picked (AreStill r run) run (steps r run) (steps_made r run) (all_picked run r.makers)
-  by_phase run (Phase.Nudging [] true) h f = inl refl
-  by_phase run (Phase.Nudging [] false) h f = inl refl
-  by_phase run (Phase.Nudging (m ∷ rest) moved) h f = go (is_spent r run)
+  by_phase run (Phase.Nudging at [] true) h f = inl refl
+  by_phase run (Phase.Nudging at [] false) h f = by_left run at run.left
+  by_phase run (Phase.Nudging at (m ∷ rest) moved) h f = go (is_spent r run)
     where
-      go : (b : Bool) → IsStepOf (AreStill r run) p (journal_in run p) (journal_in (cond b (record run { phase = Phase.Ended true })
-          (record (give m Mover.Nudge run) { phase = Phase.Nudging rest (moved || moves m (journal_in run m) Mover.Nudge) })) p)
+      go : (b : Bool) → IsStepOf (AreStill r run) p (journal_in run p) (journal_in (cond b (ended true (over at false run))
+          (record (give m Mover.Nudge run) { phase = Phase.Nudging at rest (moved || moves m (journal_in run m) Mover.Nudge) })) p)
       go true = inl refl
-      go false = give_one (AreStill r run) p m Mover.Nudge run (one m (listed run m rest moved h)) (still_then run m rest moved h f)
+      go false = give_one (AreStill r run) p m Mover.Nudge run (one m (h.inside m (inl refl))) (still_then run at m rest moved h f)
+  by_phase run (Phase.Timing at []) h f = inl refl
+  by_phase run (Phase.Timing at (m ∷ rest)) h f = go (is_spent r run)
+    where
+      go : (b : Bool) → IsStepOf (AreStill r run) p (journal_in run p) (journal_in (cond b (ended true (over at true run))
+          (record (give m Mover.Timeout run) { phase = Phase.Timing at rest })) p)
+      go true = inl refl
+      go false = give_one (AreStill r run) p m Mover.Timeout run (one m (h.inside m (inl refl))) (λ e. tt)
   by_phase run (Phase.Ended spent) h f = inl refl
 
   -- ---- the phases
 
-  picked_first : (run : Run) (l : List Step) → run.phase ≡ Phase.Pick → IsFirst p r.makers (pick_from r run l).phase
-  picked_first run [] e = inl (refl, refl)
-  picked_first run (x ∷ rest) e = go (get_or (x ∷ rest) (r.word run.picks % length (x ∷ rest)) x)
-    where
-      go : (x : Step) → IsFirst p r.makers (take_step (record run { picks = run.picks + 1 }) x).phase
-      go (Step.Hear m k c) = subst (IsFirst p r.makers) (sym (phase_hear m k c (record run { picks = run.picks + 1 }) ∙ e)) tt
-      go (Step.Give m mover) = subst (IsFirst p r.makers) (sym (phase_give m mover (record run { picks = run.picks + 1 }) ∙ e)) tt
+  picked_first : (run : Run) (l : List Step) → IsFirst p r.makers (pick_from r run l).phase
+  picked_first run [] = inl (refl, refl)
+  picked_first run (x ∷ rest) =
+      subst (IsFirst p r.makers) (sym (stepped (again (record run { picks = run.picks + 1 })) (get_or (x ∷ rest) (r.word run.picks % length (x ∷ rest)) x)
+      (Phase.Lines [] run.lines) refl)) tt
+
+  left_first : (run : Run) (at : List ℕ) (left : ℕ) → IsFirst p r.makers (by_patience r run at left).phase
+  left_first run at zero = tt
+  left_first run at (suc left) = tt
+
+  looked_first : (run : Run) (kept : List Line) (line : Line) (rest : List Line) (b : Bool) → IsFirst p r.makers (look run kept line rest b).phase
+  looked_first run kept line rest true = tt
+  looked_first run kept line rest false = tt
 
   first_by : (run : Run) (phase : Phase) → run.phase ≡ phase → IsFirst p r.makers phase → IsFirst p r.makers (next_in r run phase).phase
+  first_by run (Phase.Lines kept []) e f = tt
+  first_by run (Phase.Lines kept (line ∷ rest)) e f = go (is_spent r run)
+    where
+      go : (b : Bool) → IsFirst p r.makers (cond b (ended true run) (look run kept line rest (is_due run line))).phase
+      go true = tt
+      go false = looked_first run kept line rest (is_due run line)
   first_by run Phase.Pick e f = go (is_spent r run)
     where
-      go : (b : Bool) → IsFirst p r.makers (cond b (record run { phase = Phase.Ended true }) (pick_from r run (steps r run))).phase
+      go : (b : Bool) → IsFirst p r.makers (cond b (ended true run) (pick_from r run (steps r run))).phase
       go true = tt
-      go false = picked_first run (steps r run) e
-  first_by run (Phase.Nudging [] true) e f = tt
-  first_by run (Phase.Nudging [] false) e f = tt
-  first_by run (Phase.Nudging (m ∷ rest) moved) e f = go (is_spent r run)
+      go false = picked_first run (steps r run)
+  first_by run (Phase.Nudging at [] true) e f = tt
+  first_by run (Phase.Nudging at [] false) e f = left_first run at run.left
+  first_by run (Phase.Nudging at (m ∷ rest) moved) e f = go (is_spent r run)
     where
-      tail : IsFirst p r.makers (Phase.Nudging (m ∷ rest) moved) → IsApart p rest
+      tail : IsFirst p r.makers (Phase.Nudging at (m ∷ rest) moved) → IsApart p rest
       tail (inl h) = (let same_rest : rest ≡ others = (let q = h.0 ∙ first in cc) in subst (IsApart p) (sym same_rest) apart)
       tail (inr h) = h.1
 
-      go : (b : Bool) → IsFirst p r.makers (cond b (record run { phase = Phase.Ended true })
-          (record (give m Mover.Nudge run) { phase = Phase.Nudging rest (moved || moves m (journal_in run m) Mover.Nudge) })).phase
+      go : (b : Bool) → IsFirst p r.makers (cond b (ended true (over at false run))
+          (record (give m Mover.Nudge run) { phase = Phase.Nudging at rest (moved || moves m (journal_in run m) Mover.Nudge) })).phase
       go true = tt
       go false = inr (tail f)
+  first_by run (Phase.Timing at []) e f = tt
+  first_by run (Phase.Timing at (m ∷ rest)) e f = go (is_spent r run)
+    where
+      go : (b : Bool) → IsFirst p r.makers (cond b (ended true (over at true run)) (record (give m Mover.Timeout run) { phase = Phase.Timing at rest })).phase
+      go true = tt
+      go false = tt
   first_by run (Phase.Ended spent) e f = subst (IsFirst p r.makers) (sym e) tt
 
   all_first : (n : ℕ) → IsFirst p r.makers (after r n).phase

@@ -1,5 +1,5 @@
 -- The one run of a script, step by step: each prefix is a lawful run, and what its replicas heard they have heard ever after.
-use Rattle.std.proofs.Common.{◌≡◌, ℕ, zero, suc, ◌+◌, ◌<◌, Bool, true, false, cond, ◌||◌, nat_le, List, [], ◌∷◌, ◌++◌, map, length, ◌⊎◌, inl, inr, refl, sym, ap, subst, ◌∙◌, Result, Ok, Err, arith, get_or, ◌%◌}
+use Rattle.std.proofs.Common.{Option, ◌≡◌, ℕ, zero, suc, ◌+◌, ◌<◌, Bool, true, false, cond, ◌||◌, nat_le, List, [], ◌∷◌, ◌++◌, map, length, ◌⊎◌, inl, inr, refl, sym, ap, subst, ◌∙◌, Result, Ok, Err, arith, get_or, ◌%◌}
 use Rattle.std.specs.Prelude.{slice_index, replicate}
 use Rattle.fab_base.specs.Limits.{Roster}
 use Rattle.fab_base.specs.Roster.{is_replica, is_cluster, size_of}
@@ -10,7 +10,7 @@ use Rattle.fab_base.proofs.Tests.{and_both, is_below, is_at_most}
 use Rattle.fab_rules.specs.Diary as diaries
 use Rattle.fab_rules.specs.Diary.{Heard}
 use Rattle.fab_rules.specs.Lists.{In}
-use Rattle.fab_rules.proofs.Lists.{in_append_left}
+use Rattle.fab_rules.proofs.Lists.{in_append_left, in_append_right, in_map}
 use Rattle.fab_rules.proofs.Saying.{heard_before}
 use Rattle.fab_machine.specs.State.{Replica, fresh}
 use Rattle.fab_machine.specs.Items.{statements_in}
@@ -25,13 +25,17 @@ use Rattle.world_laws.specs.World.{IsKnown, NoClash}
 use Rattle.heed_laws.specs.Resting.{member, IsVoiced}
 use Rattle.run_words.specs.Keyed.{is_same}
 use Rattle.run_words.specs.Journal.{Maker, event_of, moves, entry_of, state, diary, reads, IsMade}
-use Rattle.run_words.specs.Runs.{Rules, Run, Phase, Step, journal_in, with_entry, give, hear, hear_by, taken_out, steps, pick_from, take_step, next, next_in, is_spent, after, trace_in, transcript}
+use Rattle.run_words.specs.Runs.{Rules, Line, Run, Phase, Step, again, over, ended, by_patience, look, is_due, journal_in, with_entry, give, hear, hear_by, taken_out, steps, pick_from, take_step, next, next_in, is_spent, after, trace_in, transcript}
 use Rattle.run_words.specs.declared.movers.Mover.{Mover}
 use Rattle.run_words.specs.declared.logs.Entry.{Entry}
 use Rattle.run_words.specs.declared.logs.Pending.{Pending}
 use Rattle.run_words.specs.declared.logs.Transcript.{Transcript}
 use Rattle.run_words.proofs.Counts.{IsIn, journal_other}
-use Rattle.run_words.proofs.Keeping.{IsTrueLog, after_well, lawful_of}
+use Rattle.run_words.proofs.Keeping.{IsTrueLog, after_well}
+use Rattle.run_words.proofs.Ending.{told_by, lawful_after}
+use Rattle.run_worlds.proofs.Untroubled.{none_faulty, fine_timeouts}
+use Rattle.fault_script.specs.declared.twists.Fault.{Fault}
+use Rattle.std.specs.Option.{is_some}
 use Rattle.run_words.proofs.Keys.{of_more, same_is, same_self}
 use Rattle.run_words.proofs.Replays.{same_diary, state_more}
 use Rattle.script_keys.specs.Keys.{replicas_of}
@@ -44,6 +48,7 @@ use Rattle.audit_laws.proofs.Members.{is_listed}
 use Rattle.audit_laws.proofs.Sanity.{sane}
 use Rattle.plain_laws.specs.Plain.{journal_by}
 use Rattle.plain_laws.proofs.Members.{journal_related}
+use Rattle.plain_laws.proofs.Plainness.{ArePlainEntries, run_plain}
 use Rattle.budget_laws.specs.Opened.{state_at, full_at}
 use Rattle.budget_laws.specs.Proposals.{IsThrifty}
 use Rattle.budget_laws.proofs.Ordered.{IsMet, AreApart, ordered, thrifty_of}
@@ -54,12 +59,12 @@ use Rattle.budget_laws.proofs.Voicing.{voiced}
 
 -- the transcript of the first steps of the one run of a script
 abbrev pub at_step : Script → ℕ → Transcript
-at_step script n = transcript (script_rules script) (after (script_rules script) n)
+at_step script n = told_by (script_rules script) (after (script_rules script) n)
 
-pub run_of : (script : Script) (n : ℕ) → keeps_limits script ≡ true → IsRunOf script (transcript (script_rules script) (after (script_rules script) n))
+pub run_of : (script : Script) (n : ℕ) → keeps_limits script ≡ true → IsRunOf script (at_step script n)
 run_of script n limits =
-    let s = sane script limits in
-    record { limits = limits; lawful = lawful_of (script_rules script) (after (script_rules script) n) s.apart (after_well (script_rules script) n s).fair }
+    let s = sane script limits (fine_timeouts script) in
+    record { limits = limits; timeouts = fine_timeouts script; lawful = lawful_after (script_rules script) n s }
 
 -- ---- a step adds one entry at most to a journal
 
@@ -97,22 +102,43 @@ take_longer n run (Step.Give m mover) = give_longer n m mover run
 
 pick_longer : (r : Rules) (n : Maker) (run : Run) (l : List Step) → IsLonger (journal_in run n) (journal_in (pick_from r run l) n)
 pick_longer r n run [] = inl refl
-pick_longer r n run (s ∷ rest) = take_longer n (record run { picks = run.picks + 1 }) (get_or (s ∷ rest) (r.word run.picks % length (s ∷ rest)) s)
+pick_longer r n run (s ∷ rest) = take_longer n (again (record run { picks = run.picks + 1 })) (get_or (s ∷ rest) (r.word run.picks % length (s ∷ rest)) s)
+
+left_longer : (r : Rules) (n : Maker) (run : Run) (at : List ℕ) (left : ℕ) → IsLonger (journal_in run n) (journal_in (by_patience r run at left) n)
+left_longer r n run at zero = inl refl
+left_longer r n run at (suc left) = inl refl
+
+look_longer : (n : Maker) (run : Run) (kept : List Line) (line : Line) (rest : List Line) (b : Bool)
+    → IsLonger (journal_in run n) (journal_in (look run kept line rest b) n)
+look_longer n run kept line rest true = give_longer n line.maker Mover.Timeout run
+look_longer n run kept line rest false = inl refl
 
 by_longer : (r : Rules) (n : Maker) (run : Run) (p : Phase) → IsLonger (journal_in run n) (journal_in (next_in r run p) n)
+by_longer r n run (Phase.Lines kept []) = inl refl
+by_longer r n run (Phase.Lines kept (line ∷ rest)) = go (is_spent r run)
+  where
+    go : (b : Bool) → IsLonger (journal_in run n) (journal_in (cond b (ended true run) (look run kept line rest (is_due run line))) n)
+    go true = inl refl
+    go false = look_longer n run kept line rest (is_due run line)
 by_longer r n run Phase.Pick = go (is_spent r run)
   where
-    go : (b : Bool) → IsLonger (journal_in run n) (journal_in (cond b (record run { phase = Phase.Ended true }) (pick_from r run (steps r run))) n)
+    go : (b : Bool) → IsLonger (journal_in run n) (journal_in (cond b (ended true run) (pick_from r run (steps r run))) n)
     go true = inl refl
     go false = pick_longer r n run (steps r run)
-by_longer r n run (Phase.Nudging [] true) = inl refl
-by_longer r n run (Phase.Nudging [] false) = inl refl
-by_longer r n run (Phase.Nudging (m ∷ rest) moved) = go (is_spent r run)
+by_longer r n run (Phase.Nudging at [] true) = inl refl
+by_longer r n run (Phase.Nudging at [] false) = left_longer r n run at run.left
+by_longer r n run (Phase.Nudging at (m ∷ rest) moved) = go (is_spent r run)
   where
-    go : (b : Bool) → IsLonger (journal_in run n) (journal_in (cond b (record run { phase = Phase.Ended true })
-        (record (give m Mover.Nudge run) { phase = Phase.Nudging rest (moved || moves m (journal_in run m) Mover.Nudge) })) n)
+    go : (b : Bool) → IsLonger (journal_in run n) (journal_in (cond b (ended true (over at false run))
+        (record (give m Mover.Nudge run) { phase = Phase.Nudging at rest (moved || moves m (journal_in run m) Mover.Nudge) })) n)
     go true = inl refl
     go false = give_longer n m Mover.Nudge run
+by_longer r n run (Phase.Timing at []) = inl refl
+by_longer r n run (Phase.Timing at (m ∷ rest)) = go (is_spent r run)
+  where
+    go : (b : Bool) → IsLonger (journal_in run n) (journal_in (cond b (ended true (over at true run)) (record (give m Mover.Timeout run) { phase = Phase.Timing at rest })) n)
+    go true = inl refl
+    go false = give_longer n m Mover.Timeout run
 by_longer r n run (Phase.Ended spent) = inl refl
 
 pub next_longer : (r : Rules) (n : Maker) (run : Run) → IsLonger (journal_in run n) (journal_in (next r run) n)
@@ -152,7 +178,7 @@ diary_later (m ∷ makers) a b more i x h = go (is_same i m.id) (diary_later mak
 known_later : (script : Script) (m k : ℕ) (batch : List Request) → IsKnown (world_of (at_step script m)) batch → IsKnown (world_of (at_step script (m + k))) batch
 known_later script m k batch known = record {
   hearer = known.hearer;
-  correct = record { takes_part = known.correct.takes_part; not_faulty = refl };
+  correct = record { takes_part = known.correct.takes_part; not_faulty = known.correct.not_faulty };
   message = known.message;
   heard = diary_later (makers_of script) (after (script_rules script) m) (after (script_rules script) (m + k)) (hears_later (script_rules script) m k) known.hearer known.message known.heard;
   inside = known.inside;
@@ -253,7 +279,13 @@ module _ (script : Script) (limits : keeps_limits script ≡ true) (one : length
   listed = is_listed script (member 0) (known 0 some)
 
   logs : (n : ℕ) → IsTrueLog maker (journal_at n)
-  logs n = (after_well (script_rules script) n (sane script limits)).fair.logs maker (made_of script (replicas_of script) (member 0) listed)
+  logs n = (after_well (script_rules script) n (sane script limits (fine_timeouts script))).fair.logs maker (made_of script (replicas_of script) (member 0) listed)
+
+  -- all that the primary did is plain
+  pub plain_journal : (n : ℕ) → ArePlainEntries (journal_in (after (script_rules script) n) (maker_of script (member 0)))
+  plain_journal n =
+      run_plain (at_step script n) (run_of script n limits) one (trace_in (run_at n) maker)
+      (in_map (trace_in (run_at n)) maker (makers_of script) (in_map (maker_of script) (member 0) (replicas_of script) listed))
 
   related : (n : ℕ) → AreRelated r (member 0) (now_at n) (diary_at n)
   related n = journal_related maker (journal_at n) (within_limits script limits) (known 0 some) (logs n).0 (logs n).1
@@ -276,7 +308,7 @@ module _ (script : Script) (limits : keeps_limits script ≡ true) (one : length
       met batch (inl none) = inl none
       met batch (inr (k, l, h)) = inr (record {
         hearer = member k;
-        correct = record { takes_part = known k l; not_faulty = refl };
+        correct = record { takes_part = known k l; not_faulty = ap (λ (f : Option Fault). is_some f) (none_faulty script (member k)) };
         message = h.message;
         heard = heard_before ((world_of (at_step script n)).diary (member k)) (statements_in (member k) (state_at (at_step script n) k).outbox) h.message h.heard;
         inside = h.inside;
@@ -320,6 +352,7 @@ module _ (script : Script) (limits : keeps_limits script ≡ true) (one : length
           let s = now_at n in
           let past = diary_at n in
           let ev = event_of e in
+          let plain = plain_journal (suc n) e (subst (In e) (sym more) (in_append_right e (journal_at n) (e ∷ []) (inl refl))) in
           let now = (step r (member 0) s ev).state in
           let grown = diary_after (member 0) s ev now past in
           let state_new : now_at (suc n) ≡ now = ap (state maker) more ∙ state_more maker (journal_at n) e in
@@ -327,7 +360,7 @@ module _ (script : Script) (limits : keeps_limits script ≡ true) (one : length
           let diary_new : diary_at (suc n) ≡ grown = ap (diary maker) more ∙ diary_more maker (journal_at n) e (logs n).0 made in
           let after : AreRelated r (member 0) now grown = subst (AreRelated r (member 0) now) diary_new (subst (λ x. AreRelated r (member 0) x (diary_at (suc n))) state_new (related (suc n))) in
           let orders : IsOrderedAt now grown = subst (IsOrderedAt now) diary_new (subst (λ x. IsOrderedAt x (diary_at (suc n))) state_new (ordered_at (suc n) clear)) in
-          let all : IsFineAt now grown = step_in_turn r s past ev one (related n) (ordered_at n before) after orders fine in
+          let all : IsFineAt now grown = step_in_turn r s past ev one plain (related n) (ordered_at n before) after orders fine in
           subst (λ x. IsFineAt x (diary_at (suc n))) (sym state_new) (subst (IsFineAt now) (sym diary_new) all)
 
   thrifty_at : (n : ℕ) → IsClear n → IsThrifty r (state_at (at_step script n) 0).local (full_at (at_step script n) 0)

@@ -29,14 +29,19 @@ use Rattle.fab_rules.specs.Statements.{signer_of, unsigned}
 use Rattle.fab_rules.proofs.Lists.{in_append_cases}
 use Rattle.fab_rules.proofs.Saying.{after_saying-both}
 use Rattle.pbft_slots.specs.Window.{Window, high, pre_prepare_answer, prepare_answer, commit_answer}
-use Rattle.fab_machine.specs.State.{Due, Local, Rounds, Replica}
+use Rattle.fab_machine.specs.State.{Due, Local, Rounds, Replica, Stepped}
 use Rattle.fab_machine.specs.Items.{is_own, vote_of, proposal_of, to_cluster, cluster_of, statements_by, statements_in}
 use Rattle.fab_machine.specs.Voting.{Told, unmoved, commit_certificate, commit_outs, certified_outs, newly_prepared, newly_committed, outs_after, vote_refusal, proposal_told, prepare_told, commit_told, proposal_by, prepare_by, commit_by}
 use Rattle.fab_machine.specs.Hearing.{hear, hear_checkpoint}
 use Rattle.fab_machine.specs.Checkpointing.{stable_rounds, after_move, heard_again, move_to, checkpoint_by, checkpoint}
 use Rattle.fab_machine.specs.Proposing.{eligible, proposed, is_due, propose_in}
 use Rattle.fab_machine.specs.Rounds.{round_of, knows_others, keep_answer, next_round, with_round}
-use Rattle.fab_machine.specs.Step.{Event, after_out, after_outs, after_told, emit_step, makes_entry, note_item, after_noting, own_block, execute_step, propose_step, step}
+use Rattle.fab_machine.specs.Step.{Event, emit_step, makes_entry, note_item, after_noting, own_block, execute_step, propose_step, step}
+use Rattle.fab_machine.specs.Joining.{after_out, after_outs, after_told}
+use Rattle.fab_machine.specs.Sharing.{share_item, all_recipients, shared}
+use Rattle.heed_laws.specs.Heeding.{IsPlain}
+use Rattle.heed_laws.proofs.Stepping.{hear_plain}
+use Rattle.std.proofs.lemmas.Grind.{flat_map-append}
 use Rattle.fab_machine.specs.Diaries.{diary_sent, diary_did, diary_after}
 use Rattle.fab_machine.specs.Relation.{full_of}
 use Rattle.fab_machine.specs.declared.outs.Out.{Out}
@@ -87,11 +92,13 @@ silent_item me m e = go (is_own me (signer_of m))
 -- ---- what local ordering brings about but by a proposal
 
 -- no proposal, and no certificate of another cluster
-abbrev IsOut : ReplicaId → Out → Type 0
+abbrev pub IsOut : ReplicaId → Out → Type 0
 IsOut me (Out.Put item) = batch_in item.message ≡ []
 IsOut me (Out.Certified k) = k.cluster ≡ me.cluster
+IsOut me Out.Clear = ⊥
+IsOut me (Out.Entered base) = ⊥
 
-abbrev AreOuts : ReplicaId → List Out → Type 0
+abbrev pub AreOuts : ReplicaId → List Out → Type 0
 AreOuts me outs = (out : Out) → In out outs → IsOut me out
 
 none_out : (me : ReplicaId) → AreOuts me []
@@ -170,7 +177,7 @@ module _ (r : Roster) (me : ReplicaId) where
       go true counted h = h
       go false counted h = none_out me
 
-  heard_outs : (l : Local) (x : Message) → AreOuts me (hear r me l x).outs
+  pub heard_outs : (l : Local) (x : Message) → AreOuts me (hear r me l x).outs
   heard_outs l (Message.PrePrepare p) = heard_proposal l p (vote_refusal me l p.signer.cluster p.view p.slot)
   heard_outs l (Message.Prepare v) = heard_prepare l v (vote_refusal me l v.signer.cluster v.view v.slot)
   heard_outs l (Message.Commit v) = heard_commit l v (vote_refusal me l v.signer.cluster v.view v.slot)
@@ -194,22 +201,40 @@ module _ (r : Roster) (me : ReplicaId) where
   moved_outs l zero = none_out me
   moved_outs l (suc n) = again_outs (record { answer = Answer.Moved (suc n); local = after_move l (suc n); outs = [] }) l.kept (none_out me)
 
-  marked_outs : (l : Local) (due : List Due) → AreOuts me (checkpoint_by r me l due).outs
+  pub marked_outs : (l : Local) (due : List Due) → AreOuts me (checkpoint_by r me l due).outs
   marked_outs l [] = moved_outs l (greatest (stable_rounds l))
   marked_outs l (d ∷ rest) = first_out me _ [] refl (none_out me)
 
 -- ---- they propose nothing
 
-outs_silent : (me : ReplicaId) (s : Replica) (diary : List Entry) (outs : List Out) → AreOuts me outs
-    → proposals_said (full_of me (after_outs s outs) diary) ≡ proposals_said (full_of me s diary)
-outs_silent me s diary [] of = refl
-outs_silent me s diary (Out.Put item ∷ rest) of =
-    outs_silent me (after_out s (Out.Put item)) diary rest (λ o h. of o (inr h))
+-- a share says nothing
+shared_silent : (r : Roster) (me : ReplicaId) (view : ℕ) (k : CommitCert) → statements_in me (shared r me view k) ≡ []
+shared_silent r me view k = go (is_primary r me.cluster view me.index && nat_lt 1 (length r.sizes))
+  where
+    go : (b : Bool) → statements_in me (cond b (share_item k (all_recipients r me (round_of k)) ∷ []) []) ≡ []
+    go true = refl
+    go false = refl
+
+pub full_certified : (r : Roster) (me : ReplicaId) (s : Replica) (diary : List Entry) (k : CommitCert)
+    → full_of me (after_out r me s (Out.Certified k)) diary ≡ full_of me s diary
+full_certified r me s diary k =
+    ap (after_saying diary)
+    (flat_map-append (λ i. statements_by me i.message) s.outbox (shared r me s.local.view k)
+    ∙ (ap (λ l. statements_in me s.outbox ++ l) (shared_silent r me s.local.view k) ∙ append-nil (statements_in me s.outbox)))
+
+outs_silent : (r : Roster) (me : ReplicaId) (s : Replica) (diary : List Entry) (outs : List Out) → AreOuts me outs
+    → proposals_said (full_of me (after_outs r me s outs) diary) ≡ proposals_said (full_of me s diary)
+outs_silent r me s diary [] of = refl
+outs_silent r me s diary (Out.Put item ∷ rest) of =
+    outs_silent r me (after_out r me s (Out.Put item)) diary rest (λ o h. of o (inr h))
     ∙ ap proposals_said (full_put me s diary item)
     ∙ saying_proposals (full_of me s diary) (statements_by me item.message)
     ∙ ap (λ p. proposals_said (full_of me s diary) ++ p) (silent_item me item.message (of (Out.Put item) (inl refl)))
     ∙ append-nil (proposals_said (full_of me s diary))
-outs_silent me s diary (Out.Certified k ∷ rest) of = outs_silent me (after_out s (Out.Certified k)) diary rest (λ o h. of o (inr h))
+outs_silent r me s diary (Out.Certified k ∷ rest) of =
+    outs_silent r me (after_out r me s (Out.Certified k)) diary rest (λ o h. of o (inr h)) ∙ ap proposals_said (full_certified r me s diary k)
+outs_silent r me s diary (Out.Clear ∷ rest) of = absurd (of Out.Clear (inl refl))
+outs_silent r me s diary (Out.Entered base ∷ rest) of = absurd (of (Out.Entered base) (inl refl))
 
 -- the events but for a Batch and a Nudge
 abbrev pub IsSilent : Event → Type 0
@@ -238,23 +263,25 @@ execute_silent r me s diary o =
   where
     noted : (rounds : Rounds) (b : Option RunBlock) → proposed_by me (after_noting r me s rounds b) diary ≡ proposed_by me s diary
     noted rounds None = refl
-    noted rounds (Some ran) = outs_silent me s diary (Out.Put (note_item me rounds.executed ran) ∷ []) (first_out me (Out.Put (note_item me rounds.executed ran)) [] refl (none_out me))
+    noted rounds (Some ran) = outs_silent r me s diary (Out.Put (note_item me rounds.executed ran) ∷ []) (first_out me (Out.Put (note_item me rounds.executed ran)) [] refl (none_out me))
 
     by : (o : Result (List Block) ℕ) → proposed_by me (execute_step r me s o).state diary ≡ proposed_by me s diary
     by (Err missing) = refl
     by (Ok blocks) = noted (with_round s.rounds blocks) (own_block r me (with_round s.rounds blocks))
 
-pub silent : (r : Roster) (me : ReplicaId) (s : Replica) (diary : List Entry) (e : Event) → IsSilent e
+pub silent : (r : Roster) (me : ReplicaId) (s : Replica) (diary : List Entry) (e : Event) → IsPlain e → IsSilent e
     → proposed_by me (step r me s e).state (diary_after me s e (step r me s e).state diary) ≡ proposed_by me s diary
-silent r me s diary (Event.Hear m) q =
-    outs_silent me (record s { local = (hear r me s.local m).local }) (Heard m ∷ diary) (hear r me s.local m).outs (heard_outs r me s.local m)
-    ∙ same_proposals (Heard m ∷ diary) diary (statements_in me s.outbox) refl
-silent r me s diary Event.Batch q = absurd q
-silent r me s diary Event.Nudge q = absurd q
-silent r me s diary (Event.Emit sig) q = emit_silent me s diary sig
-silent r me s diary Event.Execute q = execute_silent r me s diary (next_round (length r.sizes) s.rounds)
-silent r me s diary Event.Checkpoint q =
-    outs_silent me (record s { local = (checkpoint r me s.local).local }) diary (checkpoint r me s.local).outs (marked_outs r me s.local s.local.due)
+silent r me s diary (Event.Hear m) plain q =
+    subst (λ (t : Stepped). proposed_by me t.state (Heard m ∷ diary) ≡ proposed_by me s diary) (sym (hear_plain r me s m plain))
+    (outs_silent r me (record s { local = (hear r me s.local m).local }) (Heard m ∷ diary) (hear r me s.local m).outs (heard_outs r me s.local m)
+    ∙ same_proposals (Heard m ∷ diary) diary (statements_in me s.outbox) refl)
+silent r me s diary Event.Batch plain q = absurd q
+silent r me s diary Event.Nudge plain q = absurd q
+silent r me s diary (Event.Emit sig) plain q = emit_silent me s diary sig
+silent r me s diary Event.Execute plain q = execute_silent r me s diary (next_round (length r.sizes) s.rounds)
+silent r me s diary Event.Checkpoint plain q =
+    outs_silent r me (record s { local = (checkpoint r me s.local).local }) diary (checkpoint r me s.local).outs (marked_outs r me s.local s.local.due)
+silent r me s diary Event.Timeout plain q = absurd plain
 
 -- ---- a Batch or a Nudge proposes
 
@@ -272,7 +299,7 @@ proposes r me s diary nudged = by s.local.changing
     known : Bool
     known = knows_others me.cluster s.rounds.certificates s.local.next
 
-    put : (batch : List Request) → proposed_by me (after_told s (proposed r me s.local batch)).state diary ≡ proposed_by me s diary ++ batch ∷ []
+    put : (batch : List Request) → proposed_by me (after_told r me s (proposed r me s.local batch)).state diary ≡ proposed_by me s diary ++ batch ∷ []
     put batch =
         let m = Message.PrePrepare (proposal_of me s.local.view s.local.next batch) in
         ap proposals_said (full_put me s diary (record { message = m; to = cluster_of r me }))
@@ -282,14 +309,14 @@ proposes r me s diary nudged = by s.local.changing
     open_for : (a b c : Bool) → is_due r s.local nudged (knows_others me.cluster s.rounds.certificates s.local.next) ≡ c
         → (let t = cond (not a) (unmoved s.local (Answer.NotPrimary (s.local.view % size_of r me.cluster))) (cond b (unmoved s.local (Answer.WindowFull s.local.slots.low))
         (cond c (proposed r me s.local (take r.batch (eligible s.local))) (unmoved s.local (Answer.Waiting (length (eligible s.local)))))) in
-        makes_entry t.answer ≡ true → HasProposed r me s nudged (after_told s t).state diary)
+        makes_entry t.answer ≡ true → HasProposed r me s nudged (after_told r me s t).state diary)
     open_for false b c e q = absurd cc
     open_for true true c e q = absurd cc
     open_for true false false e q = absurd cc
     open_for true false true e q = record { due = e; one_more = put (take r.batch (eligible s.local)) }
 
     by : (o : Option ℕ) → (let t = propose_in r me s.local nudged (knows_others me.cluster s.rounds.certificates s.local.next) o in
-        makes_entry t.answer ≡ true → HasProposed r me s nudged (after_told s t).state diary)
+        makes_entry t.answer ≡ true → HasProposed r me s nudged (after_told r me s t).state diary)
     by (Some asked) q = absurd cc
     by None q =
         open_for (is_primary r me.cluster s.local.view me.index) (nat_lt (high s.local.slots) s.local.next || nat_lt GREATEST_NUMBER s.local.next)
@@ -300,19 +327,21 @@ proposes r me s diary nudged = by s.local.changing
 abbrev pub AllOwn : ReplicaId → Rounds → Type 0
 AllOwn me t = (k : CommitCert) → In k t.certificates → k.cluster ≡ me.cluster
 
-outs_own : (me : ReplicaId) (s : Replica) (outs : List Out) → AreOuts me outs → AllOwn me s.rounds → AllOwn me (after_outs s outs).rounds
-outs_own me s [] of h = h
-outs_own me s (Out.Put item ∷ rest) of h = outs_own me (after_out s (Out.Put item)) rest (λ o i. of o (inr i)) h
-outs_own me s (Out.Certified k ∷ rest) of h =
-    outs_own me (after_out s (Out.Certified k)) rest (λ o i. of o (inr i))
+outs_own : (r : Roster) (me : ReplicaId) (s : Replica) (outs : List Out) → AreOuts me outs → AllOwn me s.rounds → AllOwn me (after_outs r me s outs).rounds
+outs_own r me s [] of h = h
+outs_own r me s (Out.Put item ∷ rest) of h = outs_own r me (after_out r me s (Out.Put item)) rest (λ o i. of o (inr i)) h
+outs_own r me s (Out.Certified k ∷ rest) of h =
+    outs_own r me (after_out r me s (Out.Certified k)) rest (λ o i. of o (inr i))
     (λ c i. elim (kept_cases (keep_answer s.rounds k) s.rounds.certificates k c i) [
       | inl old ↦ h c old
       | inr same ↦ subst (λ x. x.cluster ≡ me.cluster) same (of (Out.Certified k) (inl refl))
     ])
+outs_own r me s (Out.Clear ∷ rest) of h = absurd (of Out.Clear (inl refl))
+outs_own r me s (Out.Entered base ∷ rest) of h = absurd (of (Out.Entered base) (inl refl))
 
 propose_own : (r : Roster) (me : ReplicaId) (s : Replica) (nudged : Bool) → AllOwn me s.rounds → AllOwn me (propose_step r me s nudged).state.rounds
 propose_own r me s nudged h =
-    propose_cases (λ t. AllOwn me (after_told s t).state.rounds) r me s.local nudged (knows_others me.cluster s.rounds.certificates s.local.next) (λ a. h) (λ room. h)
+    propose_cases (λ t. AllOwn me (after_told r me s t).state.rounds) r me s.local nudged (knows_others me.cluster s.rounds.certificates s.local.next) (λ a. h) (λ room. h)
 
 execute_own : (r : Roster) (me : ReplicaId) (s : Replica) (o : Result (List Block) ℕ) → AllOwn me s.rounds → AllOwn me (execute_step r me s o).state.rounds
 execute_own r me s (Err missing) h = h
@@ -322,18 +351,21 @@ execute_own r me s (Ok blocks) h = go (own_block r me (with_round s.rounds block
     go None = h
     go (Some ran) = h
 
-pub own_kept : (r : Roster) (me : ReplicaId) (s : Replica) (e : Event) → AllOwn me s.rounds → AllOwn me (step r me s e).state.rounds
-own_kept r me s (Event.Hear m) h = outs_own me (record s { local = (hear r me s.local m).local }) (hear r me s.local m).outs (heard_outs r me s.local m) h
-own_kept r me s Event.Batch h = propose_own r me s false h
-own_kept r me s Event.Nudge h = propose_own r me s true h
-own_kept r me s (Event.Emit sig) h = go s.outbox
+pub own_kept : (r : Roster) (me : ReplicaId) (s : Replica) (e : Event) → IsPlain e → AllOwn me s.rounds → AllOwn me (step r me s e).state.rounds
+own_kept r me s (Event.Hear m) plain h =
+    subst (λ (t : Stepped). AllOwn me t.state.rounds) (sym (hear_plain r me s m plain))
+    (outs_own r me (record s { local = (hear r me s.local m).local }) (hear r me s.local m).outs (heard_outs r me s.local m) h)
+own_kept r me s Event.Batch plain h = propose_own r me s false h
+own_kept r me s Event.Nudge plain h = propose_own r me s true h
+own_kept r me s (Event.Emit sig) plain h = go s.outbox
   where
     go : (o : List Item) → AllOwn me (emit_step me s sig o).state.rounds
     go [] = h
     go (item ∷ rest) = h
-own_kept r me s Event.Execute h = execute_own r me s (next_round (length r.sizes) s.rounds) h
-own_kept r me s Event.Checkpoint h =
-    outs_own me (record s { local = (checkpoint r me s.local).local }) (checkpoint r me s.local).outs (marked_outs r me s.local s.local.due) h
+own_kept r me s Event.Execute plain h = execute_own r me s (next_round (length r.sizes) s.rounds) h
+own_kept r me s Event.Checkpoint plain h =
+    outs_own r me (record s { local = (checkpoint r me s.local).local }) (checkpoint r me s.local).outs (marked_outs r me s.local s.local.due) h
+own_kept r me s Event.Timeout plain h = absurd plain
 
 -- so none of another cluster is known
 pub none_known : (me : ReplicaId) (certificates : List CommitCert) (round : ℕ) → ((k : CommitCert) → In k certificates → k.cluster ≡ me.cluster)

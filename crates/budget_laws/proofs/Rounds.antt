@@ -35,10 +35,12 @@ use Rattle.run_words.specs.Lawful.{AreEach}
 use Rattle.run_words.specs.declared.logs.Entry.{Entry}
 use Rattle.run_words.specs.declared.logs.Transcript.{Transcript}
 use Rattle.run_words.proofs.Counts.{IsIn}
-use Rattle.run_words.proofs.Keeping.{AreStill, IsWell, after_well, heard_of, sent_of}
+use Rattle.run_words.proofs.Keeping.{AreStill, IsWell, after_well}
+use Rattle.run_words.proofs.Quieting.{heard_of, sent_of}
 use Rattle.run_words.proofs.Replays.{fresh_is}
 use Rattle.script_keys.specs.Keys.{leaves_of, replicas_of, height_of}
 use Rattle.script_keys.proofs.Wishes.{asked_in}
+use Rattle.run_worlds.proofs.Untroubled.{fine_timeouts}
 use Rattle.run_worlds.specs.Scripts.{roster_of, maker_of, makers_of, script_rules}
 use Rattle.run_worlds.specs.Worlds.{world_of}
 use Rattle.run_worlds.specs.Sights.{first_evidence}
@@ -57,7 +59,7 @@ use Rattle.budget_laws.specs.Proposals.{proposals_said, requests_said, stamps_sa
 use Rattle.budget_laws.proofs.Asked.{stamps_among, member_known, home_is, requests_few, requests_all, last_eligible}
 use Rattle.budget_laws.proofs.Journals.{journal_at, diary_at, first_of_all, batches_by, HasBatch, one_step}
 use Rattle.budget_laws.proofs.Moments.{step_of}
-use Rattle.budget_laws.proofs.Prefixes.{at_step, run_of, no_clash_before, thrifty}
+use Rattle.budget_laws.proofs.Prefixes.{plain_journal, at_step, run_of, no_clash_before, thrifty}
 use Rattle.budget_laws.proofs.Stillness.{idle_then}
 use Rattle.budget_laws.proofs.Sums.{go_below, go_last}
 use Rattle.budget_laws.proofs.Voicing.{next_opened, spent_opened}
@@ -217,7 +219,7 @@ module _ (script : Script) (limits : keeps_limits script ≡ true) (one : length
       ∙ ap (λ d. proposals_said (full_of (member 0) (state primary (journal n)) d)) (diary_at script (after rules n) (replicas_of script) (member 0) listed)
 
   well : (n : ℕ) → IsWell (script_rules script) (after (script_rules script) n)
-  well n = after_well rules n (sane script limits)
+  well n = after_well rules n (sane script limits (fine_timeouts script))
 
   same_in : (m : Maker) (makers : List Maker) → In m makers → IsIn m makers
   same_in m [] h = h
@@ -231,8 +233,8 @@ module _ (script : Script) (limits : keeps_limits script ≡ true) (one : length
       ⊎ HasBatch (AreStill (script_rules script) (after (script_rules script) n)) (maker_of script (member 0)) (journal n) (journal (suc n))
   stepped n =
       let first = first_of_all script some in
-      one_step (AreStill rules (after rules n)) primary (journal n) (journal (suc n)) (replays n) (replays (suc n))
-      (step_of rules primary first.others first.makers_are (sane script limits) n)
+      one_step (AreStill rules (after rules n)) primary (journal n) (journal (suc n)) (replays n) (replays (suc n)) (plain_journal script limits one some (suc n))
+      (step_of rules primary first.others first.makers_are (sane script limits (fine_timeouts script)) n)
 
   few : (n : ℕ) → NoClash (world_of (at_step script n)) → length (requests_said (full_at (at_step script n) 0)) ≤ length script.requests
   few n none = requests_few (t n) (run n) one some (wastes_nothing n none)
@@ -286,7 +288,7 @@ module _ (script : Script) (limits : keeps_limits script ≡ true) (one : length
             ]
             | inr left ↦ (let quiet : IsStill (at_step script n) =
                 record {
-                  all_heard = heard_of rules (after rules n) (sane script limits).apart (well n).fair still;
+                  all_heard = heard_of rules (after rules n) (sane script limits (fine_timeouts script)).apart (well n).fair still;
                   sent = sent_of rules (after rules n) still;
                   idle = idle_then rules (after rules n) still;
                 } in

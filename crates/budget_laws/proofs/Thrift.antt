@@ -32,14 +32,18 @@ use Rattle.pbft_slots.specs.declared.slot.Proposal.{Proposal}
 use Rattle.pbft_slots.specs.Window.{Window, slot_by, slot_at, proposal_at, after_pre_prepare, after_prepare, after_commit, pre_prepare_answer, prepare_answer, commit_answer}
 use Rattle.pbft_slots.proofs.Places.{place_open}
 use Rattle.checkpoint_core.specs.Checkpoints.{vote_answer, after_vote}
-use Rattle.fab_machine.specs.State.{Proposed, Due, Local, Replica}
+use Rattle.fab_machine.specs.State.{Stepped, Proposed, Due, Local, Replica}
 use Rattle.fab_machine.specs.Items.{statements_by, statements_in, proposal_of, cluster_of}
 use Rattle.fab_machine.specs.Voting.{Told, unmoved, newly_prepared, keep_prepared, after_count, vote_refusal, proposal_told, prepare_told, commit_told, proposal_by, prepare_by, commit_by}
 use Rattle.fab_machine.specs.Hearing.{hear}
 use Rattle.fab_machine.specs.Proposing.{stamps_of, proposed_stamps, batch_of_slot, held_stamps, expected, eligible, proposed, propose}
 use Rattle.fab_machine.specs.Checkpointing.{stable_rounds, after_move, move_to, checkpoint_by, checkpoint}
 use Rattle.fab_machine.specs.Rounds.{certificate_for, block_of, knows_others, next_round, with_round}
-use Rattle.fab_machine.specs.Step.{Event, after_out, after_outs, after_told, emit_step, own_block, note_item, after_noting, execute_step, step}
+use Rattle.fab_machine.specs.Step.{Event, emit_step, own_block, note_item, after_noting, execute_step, step}
+use Rattle.fab_machine.specs.Joining.{after_out, after_outs, after_told}
+use Rattle.heed_laws.specs.Heeding.{IsPlain}
+use Rattle.heed_laws.proofs.Stepping.{hear_plain}
+use Rattle.budget_laws.proofs.Putting.{IsOut, full_certified, heard_outs, marked_outs}
 use Rattle.fab_machine.specs.Diaries.{diary_sent, diary_did, diary_after}
 use Rattle.fab_machine.specs.Relation.{full_of, AreRelated}
 use Rattle.fab_machine.specs.declared.outs.Out.{Out}
@@ -156,18 +160,29 @@ orders_full : (me : ReplicaId) (s : Replica) (a b : List Entry) → orders_said 
 orders_full me s a b e =
     orders_saying b (statements_in me s.outbox) ∙ (ap (λ l. l ++ flat_map order_in (statements_in me s.outbox)) e ∙ sym (orders_saying a (statements_in me s.outbox)))
 
-orders_put : (me : ReplicaId) (s : Replica) (diary : List Entry) (item : Item)
-    → orders_said (full_of me (after_out s (Out.Put item)) diary) ≡ orders_said (full_of me s diary) ++ flat_map order_in (statements_by me item.message)
-orders_put me s diary item = ap orders_said (full_put me s diary item) ∙ orders_saying (full_of me s diary) (statements_by me item.message)
+-- it leaves or enters no view
+abbrev pub IsPlainOut : Out → Type 0
+IsPlainOut Out.Clear = ⊥
+IsPlainOut (Out.Entered base) = ⊥
+IsPlainOut out = Unit {0}
 
-orders_outs : (me : ReplicaId) (s : Replica) (diary : List Entry) (outs : List Out)
-    → (more : List Proposed) × (orders_said (full_of me (after_outs s outs) diary) ≡ orders_said (full_of me s diary) ++ more)
-orders_outs me s diary [] = ([], sym (append-nil (orders_said (full_of me s diary))))
-orders_outs me s diary (Out.Put item ∷ rest) =
-    let later = orders_outs me (after_out s (Out.Put item)) diary rest in
+orders_put : (r : Roster) (me : ReplicaId) (s : Replica) (diary : List Entry) (item : Item)
+    → orders_said (full_of me (after_out r me s (Out.Put item)) diary) ≡ orders_said (full_of me s diary) ++ flat_map order_in (statements_by me item.message)
+orders_put r me s diary item = ap orders_said (full_put me s diary item) ∙ orders_saying (full_of me s diary) (statements_by me item.message)
+
+-- as long as no view is left or entered
+orders_outs : (r : Roster) (me : ReplicaId) (s : Replica) (diary : List Entry) (outs : List Out) → ((out : Out) → In out outs → IsPlainOut out)
+    → (more : List Proposed) × (orders_said (full_of me (after_outs r me s outs) diary) ≡ orders_said (full_of me s diary) ++ more)
+orders_outs r me s diary [] plain = ([], sym (append-nil (orders_said (full_of me s diary))))
+orders_outs r me s diary (Out.Put item ∷ rest) plain =
+    let later = orders_outs r me (after_out r me s (Out.Put item)) diary rest (λ o h. plain o (inr h)) in
     let x = flat_map order_in (statements_by me item.message) in
-    (x ++ later.0, later.1 ∙ (ap (λ l. l ++ later.0) (orders_put me s diary item) ∙ append_assoc (orders_said (full_of me s diary)) x later.0))
-orders_outs me s diary (Out.Certified k ∷ rest) = orders_outs me (after_out s (Out.Certified k)) diary rest
+    (x ++ later.0, later.1 ∙ (ap (λ l. l ++ later.0) (orders_put r me s diary item) ∙ append_assoc (orders_said (full_of me s diary)) x later.0))
+orders_outs r me s diary (Out.Certified k ∷ rest) plain =
+    let later = orders_outs r me (after_out r me s (Out.Certified k)) diary rest (λ o h. plain o (inr h)) in
+    (later.0, later.1 ∙ ap (λ l. orders_said l ++ later.0) (full_certified r me s diary k))
+orders_outs r me s diary (Out.Clear ∷ rest) plain = absurd (plain Out.Clear (inl refl))
+orders_outs r me s diary (Out.Entered base ∷ rest) plain = absurd (plain (Out.Entered base) (inl refl))
 
 -- where there are as many, none came
 none_came : (xs ys more : List Proposed) → ys ≡ xs ++ more → length ys ≡ length xs → ys ≡ xs
@@ -260,6 +275,12 @@ expected_in_turn r s orders o t client home =
 
 -- ---- the events
 
+plain_out : (out : Out) → IsOut (member 0) out → IsPlainOut out
+plain_out (Out.Put item) h = tt
+plain_out (Out.Certified k) h = tt
+plain_out Out.Clear h = h
+plain_out (Out.Entered base) h = h
+
 abbrev me : ReplicaId
 me = member 0
 
@@ -271,25 +292,25 @@ module _ (r : Roster) where
   IsOrdered s diary = AreOrdered s (orders_said (full_of me s diary))
 
   -- where local ordering leaves its turn, no proposal is put
-  told_in_turn : (s : Replica) (a b : List Entry) (t : Told) → orders_said b ≡ orders_said a → turn_of t.local ≡ turn_of s.local → IsOrdered s a
-      → IsOrdered (after_told s t).state b → IsFine s a → IsFine (after_told s t).state b
-  told_in_turn s a b t same_said same_turn before after fine =
+  told_in_turn : (s : Replica) (a b : List Entry) (t : Told) → ((out : Out) → In out t.outs → IsPlainOut out) → orders_said b ≡ orders_said a → turn_of t.local ≡ turn_of s.local → IsOrdered s a
+      → IsOrdered (after_told r me s t).state b → IsFine s a → IsFine (after_told r me s t).state b
+  told_in_turn s a b t plain same_said same_turn before after fine =
       let start : Replica = record s { local = t.local } in
-      let now = after_outs start t.outs in
-      let local = outs_local start t.outs in
+      let now = after_outs r me start t.outs in
+      let local = outs_local r me start t.outs in
       let turn : turn_of now.local ≡ turn_of s.local = ap turn_of local ∙ same_turn in
       let old : orders_said (full_of me start b) ≡ orders_said (full_of me s a) = orders_full me s a b same_said in
-      let more = orders_outs me start b t.outs in
+      let more = orders_outs r me start b t.outs plain in
       let all = none_came (orders_said (full_of me s a)) (orders_said (full_of me now b)) more.0 (more.1 ∙ ap (λ l. l ++ more.0) old)
       (omega (arith, before.count, after.count, ap (λ (x : Turn). x.next) turn)) in
       subst (λ l. IsInTurn r (turn_of now.local) l) (sym all) (subst (λ x. IsInTurn r x (orders_said (full_of me s a))) (sym turn) fine)
 
   propose_in_turn : (s : Replica) (diary : List Entry) (nudged known : Bool) → AreRelated r me s diary → IsOrdered s diary → IsFine s diary
-      → IsFine (after_told s (propose r me s.local nudged known)).state diary
+      → IsFine (after_told r me s (propose r me s.local nudged known)).state diary
   propose_in_turn s diary nudged known rel o fine =
-      propose_cases (λ t. IsFine (after_told s t).state diary) r me s.local nudged known (λ a. fine) (λ room. new)
+      propose_cases (λ t. IsFine (after_told r me s t).state diary) r me s.local nudged known (λ a. fine) (λ room. new)
     where
-      new : IsFine (after_told s (proposed r me s.local (take r.batch (eligible s.local)))).state diary
+      new : IsFine (after_told r me s (proposed r me s.local (take r.batch (eligible s.local)))).state diary
       new =
           let b = take r.batch (eligible s.local) in
           let l = s.local in
@@ -301,8 +322,8 @@ module _ (r : Roster) where
           let batches = fine.done ++ fine.rest in
           let size = length-append fine.done fine.rest in
           let slot : 0 + length batches + 1 ≡ l.next = omega (arith, o.count, ap length fine.orders_are, length_numbered 0 batches) in
-          let grown : orders_said (full_of me (after_out start (Out.Put item)) diary) ≡ orders_said full ++ order l.next b ∷ [] =
-          orders_put me start diary item ∙ ap (λ ms. orders_said full ++ flat_map order_in ms) says in
+          let grown : orders_said (full_of me (after_out r me start (Out.Put item)) diary) ≡ orders_said full ++ order l.next b ∷ [] =
+          orders_put r me start diary item ∙ ap (λ ms. orders_said full ++ flat_map order_in ms) says in
           let mid : List Proposed = numbered 0 batches in
           let longer : numbered 0 (batches ++ b ∷ []) ≡ mid ++ order l.next b ∷ [] =
           numbered-append 0 batches (b ∷ []) ∙ ap (λ k. mid ++ order k b ∷ []) slot in
@@ -320,7 +341,7 @@ module _ (r : Roster) where
             stamps = λ client home. (let c = client.number in
                 let e = expected_in_turn r s (orders_said full) o fine client home in
                 let goes : GoOn (1 + length (stamps_in c batches)) (stamps_of c b) = subst (λ k. GoOn k (stamps_of c b)) (let q : expected l c ≡ 1 + length (stamps_in c batches) = omega (arith, e) in q)
-                (front l c r.batch rel.local.is.waiting.order) in
+                (front l c r.batch rel.facts.local.is.waiting.order) in
                 let one : stamps_in c (b ∷ []) ≡ stamps_of c b = stamps_in-one c b [] ∙ append-nil (stamps_of c b) in
                 let whole : stamps_in c (batches ++ b ∷ []) ≡ stamps_in c batches ++ stamps_of c b = stamps_in-append c batches (b ∷ []) ∙ ap (λ zs. stamps_in c batches ++ zs) one in
                 subst (λ bs. GoOn 1 (stamps_in c bs)) apart (subst (GoOn 1) (sym whole) (goes_both 1 (stamps_in c batches) (stamps_of c b) (fine.stamps client home) goes)));
@@ -347,7 +368,7 @@ module _ (r : Roster) where
       let k = whole.1 0 (omega (arith, one)) in
       let c : CommitCert = k.0 in
       let is_one = single blocks (block_of (e + 1) c) (whole.0 ∙ one) k.2 in
-      let slot : e + 1 ≡ 0 + length fine.done + 1 = omega (arith, rel.rounds.told, fine.executed_is) in
+      let slot : e + 1 ≡ 0 + length fine.done + 1 = omega (arith, rel.facts.rounds.told, fine.executed_is) in
       let stands = subst (In (order (e + 1) c.batch)) fine.orders_are (o.certified (e + 1) c k.1) in
       let front_is = next_numbered 0 fine.done fine.rest (order (e + 1) c.batch) stands slot in
       let later : List (List Request) = front_is.0 in
@@ -358,7 +379,7 @@ module _ (r : Roster) where
       let says : flat_map order_in (statements_by me item.message) ≡ [] = ap (λ b. flat_map order_in (cond b (item.message ∷ []) [])) (own me) in
       let next = diary_did diary blocks in
       let same_orders : orders_said (full_of me now next) ≡ orders_said (full_of me s diary) =
-      orders_put me s next item ∙ (ap (λ l. orders_said (full_of me s next) ++ l) says ∙ (append-nil (orders_said (full_of me s next)) ∙ orders_full me s diary next (orders_did diary blocks))) in
+      orders_put r me s next item ∙ (ap (λ l. orders_said (full_of me s next) ++ l) says ∙ (append-nil (orders_said (full_of me s next)) ∙ orders_full me s diary next (orders_did diary blocks))) in
       record {
         done = fine.done ++ c.batch ∷ [];
         rest = later;
@@ -369,7 +390,7 @@ module _ (r : Roster) where
             ∙ (rest_above (length fine.done) c.batch later ∙ ap (λ j. numbered j later) (sym longer)));
         last_is = λ client home. (let n = client.number in
             let st = state_after_blocks (start_of r) s.rounds.blocks in
-            let old = rel.rounds.stamps client home in
+            let old = rel.facts.rounds.stamps client home in
             let last = fine.last_is client home in
             let parts : stamps_in n (fine.done ++ fine.rest) ≡ stamps_in n fine.done ++ (stamps_of n c.batch ++ stamps_in n later) =
             stamps_in-append n fine.done fine.rest ∙ ap (λ l. stamps_in n fine.done ++ l) (ap (stamps_in n) rest_is ∙ stamps_in-one n c.batch later) in
@@ -379,7 +400,7 @@ module _ (r : Roster) where
             let raised = effects st c.batch n goes in
             let run : state_after_blocks (start_of r) (s.rounds.blocks ++ blocks) ≡ state_after_all st c.batch =
             ap (λ bs. state_after_blocks (start_of r) (s.rounds.blocks ++ bs)) is_one ∙ state_after_blocks-append (start_of r) s.rounds.blocks (block_of (e + 1) c ∷ []) in
-            let told = after.rounds.stamps client home in
+            let told = after.facts.rounds.stamps client home in
             let came = ap (λ x. last_of x n) run in
             let number = ap length (stamps_in-append n fine.done (c.batch ∷ []) ∙ ap (λ l. stamps_in n fine.done ++ l) (stamps_in-one n c.batch [] ∙ append-nil (stamps_of n c.batch))) in
             omega (arith, told, came, raised, old, last, number, length-append (stamps_in n fine.done) (stamps_of n c.batch)));
@@ -398,7 +419,7 @@ module _ (r : Roster) where
     where
       by : (blocks : List Block) → next_round (length r.sizes) s.rounds ≡ Ok blocks → (x : Option RunBlock) → (let now = after_noting r me s (with_round s.rounds blocks) x in
           AreRelated r me now (diary_did diary (drop (length s.rounds.blocks) now.rounds.blocks)) → IsFine now (diary_did diary (drop (length s.rounds.blocks) now.rounds.blocks)))
-      by blocks e None a = absurd (omega (arith, a.rounds.told, rel.rounds.told))
+      by blocks e None a = absurd (omega (arith, a.facts.rounds.told, rel.facts.rounds.told))
       by blocks e (Some ran) a =
           let now = after_noting r me s (with_round s.rounds blocks) (Some ran) in
           let gained = drop_front s.rounds.blocks blocks in
@@ -411,13 +432,19 @@ module _ (r : Roster) where
       go (Ok blocks) e a = by blocks e (own_block r me (with_round s.rounds blocks)) a
 
   -- any event
-  pub step_in_turn : (s : Replica) (diary : List Entry) (e : Event) → length r.sizes ≡ 1 → AreRelated r me s diary → IsOrdered s diary
+  pub step_in_turn : (s : Replica) (diary : List Entry) (e : Event) → length r.sizes ≡ 1 → IsPlain e → AreRelated r me s diary → IsOrdered s diary
       → AreRelated r me (step r me s e).state (diary_after me s e (step r me s e).state diary) → IsOrdered (step r me s e).state (diary_after me s e (step r me s e).state diary)
       → IsFine s diary → IsFine (step r me s e).state (diary_after me s e (step r me s e).state diary)
-  step_in_turn s diary (Event.Hear m) one rel o after p fine = told_in_turn s diary (Heard m ∷ diary) (hear r me s.local m) refl (hear_turn r me s.local m) o p fine
-  step_in_turn s diary Event.Batch one rel o after p fine = propose_in_turn s diary false (knows_others me.cluster s.rounds.certificates s.local.next) rel o fine
-  step_in_turn s diary Event.Nudge one rel o after p fine = propose_in_turn s diary true (knows_others me.cluster s.rounds.certificates s.local.next) rel o fine
-  step_in_turn s diary (Event.Emit sig) one rel o after p fine = emit_in_turn s diary sig fine
-  step_in_turn s diary Event.Execute one rel o after p fine = execute_in_turn s diary one rel o after fine
-  step_in_turn s diary Event.Checkpoint one rel o after p fine =
-      told_in_turn s diary diary (checkpoint r me s.local) refl (checkpoint_turn r me s.local (room_left r s (orders_said (full_of me s diary)) o fine)) o p fine
+  step_in_turn s diary (Event.Hear m) one plain rel o after p fine =
+      let same = hear_plain r me s m plain in
+      subst (λ (t : Stepped). IsFine t.state (Heard m ∷ diary)) (sym same)
+      (told_in_turn s diary (Heard m ∷ diary) (hear r me s.local m) (λ out h. plain_out out (heard_outs r me s.local m out h)) refl (hear_turn r me s.local m) o
+      (subst (λ (t : Stepped). IsOrdered t.state (Heard m ∷ diary)) same p) fine)
+  step_in_turn s diary Event.Batch one plain rel o after p fine = propose_in_turn s diary false (knows_others me.cluster s.rounds.certificates s.local.next) rel o fine
+  step_in_turn s diary Event.Nudge one plain rel o after p fine = propose_in_turn s diary true (knows_others me.cluster s.rounds.certificates s.local.next) rel o fine
+  step_in_turn s diary (Event.Emit sig) one plain rel o after p fine = emit_in_turn s diary sig fine
+  step_in_turn s diary Event.Execute one plain rel o after p fine = execute_in_turn s diary one rel o after fine
+  step_in_turn s diary Event.Checkpoint one plain rel o after p fine =
+      told_in_turn s diary diary (checkpoint r me s.local) (λ out h. plain_out out (marked_outs r me s.local s.local.due out h)) refl
+      (checkpoint_turn r me s.local (room_left r s (orders_said (full_of me s diary)) o fine)) o p fine
+  step_in_turn s diary Event.Timeout one plain rel o after p fine = absurd plain

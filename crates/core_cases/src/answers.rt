@@ -1,6 +1,6 @@
 //! What a replica answers, as words.
 use crate::words::{Text, joined, shown};
-use fab_base::{Hash32, Item, Message, ReplicaId, StableVotes, Take};
+use fab_base::{CommitCert, Hash32, Item, Message, ReplicaId, StableVotes, Take};
 use replica_core::Answer;
 use std::alloc::Global;
 
@@ -33,18 +33,31 @@ fn conflict_words(alloc: Global, kept: &Hash32) -> Text {
     Ok(format!(in alloc; "Conflict {{ kept: {digest} }}")?)
 }
 
-/// An item by its kind, its slot or round, and the number of its receivers.
+/// An item by its kind, its slot, round or view, and the number of its receivers.
 pub(crate) fn item_words(alloc: Global, item: &Item) -> Text {
     let (kind, number) = match &item.message {
         Message::PrePrepare(x) => ("PrePrepare", x.slot),
         Message::Prepare(x) => ("Prepare", x.slot),
         Message::Commit(x) => ("Commit", x.slot),
         Message::Checkpoint(x) => ("Checkpoint", x.round),
+        Message::ViewChange(x) => ("ViewChange", x.view),
+        Message::NewView(x) => ("NewView", x.view),
+        Message::Drvc(x) => ("Drvc", x.round),
+        Message::Rvc(x) => ("Rvc", x.round),
+        Message::Share(x) => ("Share", round(x)),
         Message::ReplyNote(x) => ("ReplyNote", x.round),
         _ => ("Other", 0),
     };
     let receivers = item.to.len();
     Ok(format!(in alloc; "{kind} {number} to {receivers}")?)
+}
+
+/// The round of a certificate.
+fn round(cert: &CommitCert) -> u64 {
+    match cert.votes.get(0) {
+        Some(vote) => vote.slot,
+        None => 0,
+    }
 }
 
 /// The signers of a proof, in its order, or `none`.

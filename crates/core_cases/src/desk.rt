@@ -109,6 +109,7 @@ fn of_replica(alloc: Global, fabric: &mut Fabric, declared: &Declared, line: &st
         "emit" => act(alloc, fabric, id, Mover::Emit),
         "execute" => act(alloc, fabric, id, Mover::Execute),
         "checkpoint" => act(alloc, fabric, id, Mover::Checkpoint),
+        "timeout" => act(alloc, fabric, id, Mover::Timeout),
         word => asked(alloc, fabric.node(id)?, word),
     }
 }
@@ -167,8 +168,8 @@ fn asked(alloc: Global, node: &Node, word: &str) -> Text {
 fn moves(alloc: Global, seat: &Seat) -> Text {
     let (batch, nudge) = (seat.would(Mover::Batch), seat.would(Mover::Nudge));
     let (emit, execute) = (seat.would(Mover::Emit), seat.would(Mover::Execute));
-    let checkpoint = seat.would(Mover::Checkpoint);
+    let (checkpoint, timeout) = (seat.would(Mover::Checkpoint), seat.would(Mover::Timeout));
     Ok(format!(in alloc;
-        "batch {batch}, nudge {nudge}, emit {emit}, execute {execute}, checkpoint {checkpoint}"
+        "batch {batch}, nudge {nudge}, emit {emit}, execute {execute}, checkpoint {checkpoint}, timeout {timeout}"
     )?)
 }

@@ -1,4 +1,4 @@
-//! Cases of a replica in view 0 (PBFT, GeoBFT), as data: each line of standard input is a question or an event, and is answered on a line
+//! Cases of a replica (PBFT, GeoBFT), as data: each line of standard input is a question or an event, and is answered on a line
 //! of its own behind ` => `. A line that is empty or begins with `#` is passed on as it stands, so that both read as one text.
 //!
 //! The contracts of `replica_core` and `round_exec` say what each call answers. What they can't say is shown here: that the calls which
@@ -20,7 +20,7 @@
 //! | `hear ID checkpoint SIGNER ROUND DIGEST` | it hears that Checkpoint | its answer |
 //! | `hear ID fetch ASKER CLUSTER ROUND` | it hears that question | its answer |
 //! | `next ID`, `last ID` | it hears the oldest or the newest of its mail | its answer, or `None` |
-//! | `batch ID`, `nudge ID`, `emit ID`, `execute ID`, `checkpoint ID` | the event; what is emitted goes to its receivers' mail | its answer |
+//! | `batch ID`, `nudge ID`, `emit ID`, `execute ID`, `checkpoint ID`, `timeout ID` | the event; what is emitted goes to its receivers' mail | its answer |
 //! | `settle first`, `settle last` | see below | the number of events |
 //! | `first ID`, `draft ID` | – | the first item that waits; how many bytes of it are to be signed |
 //! | `moves ID` | – | which events would make an entry in a journal |
@@ -32,10 +32,10 @@
 //! | `keep CLUSTER ROUND BATCH` | they keep a certificate of one Commit | their answer |
 //! | `run` | they execute the next round | their answer |
 //!
-//! Answers are written as Rust writes them; of a digest the first four bytes, and of an item the kind, the slot or the round, and the number
-//! of receivers. A message with a misfit isn't heard, and the answer is the misfit. `settle` goes over all replicas by rising id, again
+//! Answers are written as Rust writes them; of a digest the first four bytes, and of an item the kind, the slot, round or view, and the
+//! number of receivers. A message with a misfit isn't heard, and the answer is the misfit. `settle` goes over all replicas by rising id, again
 //! and again: each hears the oldest (or newest) of its mail, or else takes the first that would make an entry of Batch, Emit, Execute and
-//! Checkpoint. Where no replica had an event each is nudged, and where none proposed the fabric is settled.
+//! Checkpoint. Where no replica had an event each is nudged, and where none proposed the fabric is settled. A timeout comes only by hand.
 //!
 //! A line that is none of these, or breaks a condition of the call, is answered `unreadable`.
 #![tactic(auto)]

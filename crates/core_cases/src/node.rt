@@ -69,6 +69,7 @@ impl Seat {
             },
             Mover::Execute => Event::Execute,
             Mover::Checkpoint => Event::Checkpoint,
+            Mover::Timeout => Event::Timeout,
         };
         Ok(self.core.step(event)?)
     }

@@ -1,24 +1,32 @@
 -- The first votes of a quorum, and the certificates that are made of them.
-use Rattle.std.proofs.Common.{◌≡◌, ℕ, zero, suc, ◌+◌, ◌≤◌, Bool, true, false, cond, nat_eq, nat_lt, ◌&&◌, ◌||◌, List, [], ◌∷◌, ◌++◌, length, take, map, Option, Some, None, inl, inr, refl, sym, ap, subst, ◌∙◌, arith}
+use Rattle.std.proofs.Common.{◌≡◌, ℕ, zero, suc, ◌+◌, ◌^◌, ◌≤◌, Bool, true, false, cond, nat_eq, nat_lt, ◌&&◌, ◌||◌, List, [], ◌∷◌, ◌++◌, length, take, map, Option, Some, None, inl, inr, refl, sym, ap, subst, ◌∙◌, arith}
 use Rattle.std.specs.Bool.{IsTrue}
-use Rattle.std.specs.List.{filter, range_with_len}
+use Rattle.std.specs.List.{filter, list_all, range_with_len}
 use Rattle.std.proofs.lemmas.Bool.Decides.{nat_tests}
 use Rattle.std.proofs.lemmas.List.{length-take}
-use Rattle.fab_base.specs.declared.limits.TheConstants.{GREATEST_NUMBER}
+use Rattle.fab_base.specs.declared.limits.TheConstants.{GREATEST_NUMBER, MOST_MEMBERS, MOST_STATEMENTS}
+use Rattle.fab_base.specs.Roster.{is_cluster, size_of}
+use Rattle.fab_base.proofs.Tests.{and_left}
 use Rattle.fab_base.specs.Limits.{Roster}
 use Rattle.fab_base.specs.Quorums.{quorum_size}
 use Rattle.fab_base.specs.declared.ids.ReplicaId.{ReplicaId}
 use Rattle.fab_base.specs.declared.ids.Hash32.{Hash32}
 use Rattle.fab_base.specs.declared.messages.Vote.{Vote}
 use Rattle.fab_base.specs.declared.messages.Message.{Message}
-use Rattle.fab_base.proofs.Digests.{is_same_digest}
+use Rattle.fab_base.proofs.Digests.{is_same_digest, same_digest_of}
+use Rattle.fab_base.proofs.Tests.{and_both, are_same, is_at_most, is_below}
+use Rattle.fab_base.specs.Digests.{same_digest}
+use Rattle.fab_base.specs.Roster.{size_of}
+use Rattle.fab_base.specs.declared.messages.PreparedCert.{PreparedCert}
 use Rattle.fab_rules.specs.Lists.{In, leads_by, rises_by}
-use Rattle.fab_rules.specs.Format.{batch_fits, comes_before}
+use Rattle.fab_rules.specs.Format.{is_u64, batch_fits, vote_fits, votes_fit, fits, comes_before}
+use Rattle.fab_rules.specs.Format as format
 use Rattle.fab_rules.specs.Digests.{batch_digest}
-use Rattle.fab_rules.specs.Shape.{is_batch_of}
+use Rattle.fab_rules.specs.Shape.{is_batch_of, is_quorum_of, agrees_with, agree, IsShaped}
 use Rattle.fab_rules.specs.Quoted.{IsVoteFor}
 use Rattle.fab_rules.specs.Diary.{Entry, Heard, CommitHeard, QuorumHeard}
-use Rattle.fab_rules.proofs.Lists.{contains_from_in, of_flat_map}
+use Rattle.fab_rules.proofs.Lists.{contains_from_in, of_flat_map, all_pass}
+use Rattle.fab_rules.proofs.Fitting.{fields_are}
 use Rattle.vote_certs.specs.Counting.{value_of}
 use Rattle.vote_certs.proofs.Meaning.{in_filter}
 use Rattle.pbft_slots.specs.Ballots.{Counted, is_for, senders_for, kept_of, kept_from, first_votes}
@@ -28,12 +36,14 @@ use Rattle.fab_machine.specs.State.{Local}
 use Rattle.fab_machine.specs.Items.{member_of}
 use Rattle.fab_machine.specs.Voting.{batch_or_null, prepared_certificate, commit_certificate}
 use Rattle.fab_machine.specs.Rounds.{slot_of, round_of, IsCertificate}
-use Rattle.fab_machine.specs.LocalState.{IsKeptVote, IsLocalState}
+use Rattle.fab_machine.specs.LocalState.{AreOpen, IsKeptVote, AreHeld, IsReport, IsLocalState}
+use Rattle.fab_machine.proofs.Shaped.{prepare_slot}
 use Rattle.fab_machine.specs.ReplicaState.{IsKeptCertificate}
 use Rattle.fab_machine.specs.Relation.{IsBatchKnown, AreHeard, IsReported, IsBacked}
 use Rattle.fab_machine.proofs.Lists.{in_take}
 use Rattle.fab_machine.proofs.Members.{IsMember}
-use Rattle.fab_machine.proofs.Quorums.{prepared_slot, committed_slot, open_slot, agreed_batch, prepares_kept, commits_kept, prepares_heard, commits_heard, votes_heard}
+use Rattle.fab_machine.proofs.Shares.{IsFormedOf, formed_fits, formed_relay}
+use Rattle.fab_machine.proofs.Quorums.{prepared_slot, committed_slot, open_slot, agreed_batch, prepares_kept, prepares_fine, commits_kept, prepares_heard, commits_heard, votes_heard}
 
 -- ---- the senders of a digest
 
@@ -137,6 +147,7 @@ pub record AreFirst (me : ReplicaId) (view slot : ℕ) (d : Hash32) (need : ℕ)
   pub rises : rises_by comes_before (map (λ v. v.signer) votes) ≡ true
   pub own : (v : Vote) → In v votes → v.signer.cluster ≡ me.cluster
   pub votes_for : (v : Vote) → In v votes → IsVoteFor view slot d v
+  pub fit : (v : Vote) → In v votes → vote_fits v ≡ true
 
 first_from : (need : ℕ) (votes : List (Option (Counted Vote))) (d : Hash32) (v : Vote) → In v (first_votes need votes d)
     → IsKeptFrom votes d (take need (senders_for votes d)) v
@@ -155,6 +166,7 @@ first_are me view slot need votes d enough kept =
       own = λ v h. (let x = first_from need votes d v h in ap (λ y. y.signer.cluster) (sym x.kept_is) ∙ ap (λ i. i.cluster) (kept x.sender x.vote x.is).signer);
       votes_for = λ v h. (let x = first_from need votes d v h in let f = (kept x.sender x.vote x.is).votes_for in
           subst (IsVoteFor view slot d) x.kept_is (record { view_is = f.view_is; slot_is = f.slot_is; digest_is = f.digest_is ∙ x.digest_is }));
+      fit = λ v h. (let x = first_from need votes d v h in subst (λ y. vote_fits y ≡ true) x.kept_is (kept x.sender x.vote x.is).fits);
     }
 
 -- what holds of each counted vote holds of the first ones
@@ -194,6 +206,81 @@ certificate_reported r me l full slot d is heard prepared =
       agree = λ v h. subst (λ e. IsVoteFor l.view slot e v) b.digest_is (first.votes_for v (there v h));
     }
 
+-- ---- and it may be reported
+
+all_agree : (cluster view slot : ℕ) (d : Hash32) (votes : List Vote) → ((v : Vote) → In v votes → v.signer.cluster ≡ cluster)
+    → ((v : Vote) → In v votes → IsVoteFor view slot d v) → agree cluster votes ≡ true
+all_agree cluster view slot d [] own votes_for = refl
+all_agree cluster view slot d (first ∷ rest) own votes_for = all_pass (agrees_with cluster first) (first ∷ rest) one
+  where
+    one : (v : Vote) → In v (first ∷ rest) → agrees_with cluster first v ≡ true
+    one v h =
+        let a = votes_for v h in
+        let b = votes_for first (inl refl) in
+        and_both (nat_eq v.signer.cluster cluster && nat_eq v.view first.view && nat_eq v.slot first.slot) (same_digest v.digest first.digest)
+        (and_both (nat_eq v.signer.cluster cluster && nat_eq v.view first.view) (nat_eq v.slot first.slot)
+        (and_both (nat_eq v.signer.cluster cluster) (nat_eq v.view first.view) (are_same v.signer.cluster cluster (own v h))
+        (are_same v.view first.view (a.view_is ∙ sym b.view_is))) (are_same v.slot first.slot (a.slot_is ∙ sym b.slot_is)))
+        (same_digest_of v.digest first.digest (a.digest_is ∙ sym b.digest_is))
+
+some_vote : (votes : List Vote) → 1 ≤ length votes → (v : Vote) × In v votes
+some_vote [] some = absurd (omega (arith, some))
+some_vote (v ∷ rest) some = (v, inl refl)
+
+-- from what is known of its votes
+report_of : (r : Roster) (me : ReplicaId) (view : ℕ) (k : PreparedCert) → k.view ≡ view → view ≤ GREATEST_NUMBER → batch_fits k.batch ≡ true
+    → is_batch_of r me.cluster k.batch ≡ true → AreFirst me view k.slot (batch_digest k.batch) (quorum_size (size_of r me.cluster)) k.votes
+    → 1 ≤ quorum_size (size_of r me.cluster) → size_of r me.cluster ≤ MOST_MEMBERS → ((v : Vote) → In v k.votes → IsShaped r (Message.Prepare v))
+    → IsReport r me view k.slot k
+report_of r me view k view_is low_enough batch homes first some few fine =
+    let n = size_of r me.cluster in
+    let one = some_vote k.votes (omega (arith, some, first.count)) in
+    let slot_fits = prepare_slot r one.0 (fine one.0 one.1) in
+    let slot_upto : k.slot ≤ GREATEST_NUMBER = omega (arith, slot_fits, (first.votes_for one.0 one.1).slot_is) in
+    let each_fits : list_all vote_fits k.votes ≡ true = all_pass vote_fits k.votes (λ v h. fields_are (Message.Prepare v) (fine v h).spelled) in
+    let votes : votes_fit k.votes ≡ true =
+    and_both (format.at_most MOST_STATEMENTS k.votes) _ (is_at_most (length k.votes) MOST_STATEMENTS (omega (arith, first.count, few)))
+    (and_both (list_all vote_fits k.votes) _ each_fits first.rises) in
+    let placed : list_all (λ v. nat_eq v.view k.view && nat_eq v.slot k.slot) k.votes ≡ true =
+    all_pass (λ v. nat_eq v.view k.view && nat_eq v.slot k.slot) k.votes (λ v h. (let f = first.votes_for v h in
+    and_both (nat_eq v.view k.view) (nat_eq v.slot k.slot) (are_same v.view k.view (f.view_is ∙ sym view_is)) (are_same v.slot k.slot f.slot_is))) in
+    record {
+      slot_is = refl;
+      upto = slot_upto;
+      view_is = omega (arith, view_is);
+      fits = and_both (is_u64 k.view) _ (is_below k.view (2 ^ 64) (omega (arith, view_is, low_enough)))
+          (and_both (is_u64 k.slot) _ (is_below k.slot (2 ^ 64) (omega (arith, slot_upto))) (and_both (batch_fits k.batch) _ batch votes));
+      homes = homes;
+      prepared = and_both (is_quorum_of r me.cluster k.votes && agree me.cluster k.votes) _
+          (and_both (is_quorum_of r me.cluster k.votes) (agree me.cluster k.votes) (are_same (length k.votes) (quorum_size n) first.count)
+          (all_agree me.cluster view k.slot (batch_digest k.batch) k.votes first.own first.votes_for)) placed;
+      bears = all_pass (λ v. same_digest v.digest (batch_digest k.batch)) k.votes
+          (λ v h. same_digest_of v.digest (batch_digest k.batch) (first.votes_for v h).digest_is);
+      fine = fine;
+    }
+
+pub certificate_report : (r : Roster) (me : ReplicaId) (l : Local) (slot : ℕ) (d : Hash32) → l.view ≤ GREATEST_NUMBER → AreOpen r me l.slots l.prepared
+    → AreHeld r me l.view l.slots → prepared_at l.slots slot ≡ Some d → IsReport r me l.view slot (prepared_certificate l slot d)
+certificate_report r me l slot d low_enough opened held prepared =
+    let w = l.slots in
+    let n = w.members in
+    let k = prepared_certificate l slot d in
+    let s = prepared_slot w slot d opened.window prepared in
+    let b = agreed_batch (λ t. t.prepares) r me l.view w slot d held s in
+    let enough = quorum_counted n s.at.prepares d s.size s.agreed.quorum in
+    let first = first_are me l.view slot (quorum_size n) s.at.prepares d enough (prepares_kept r me l.view w slot s.at held s.at_is) in
+    let were = first_each (λ v. IsShaped r (Message.Prepare v)) (quorum_size n) s.at.prepares d (prepares_fine r me l.view w slot s.at held s.at_is) in
+    let votes_are : k.votes ≡ first_votes (quorum_size n) s.at.prepares d =
+    ap (λ o. first_votes (quorum_size n) (votes_in (λ t. t.prepares) o) d) s.at_is in
+    let same_first : AreFirst me l.view slot (batch_digest k.batch) (quorum_size (size_of r me.cluster)) k.votes =
+    subst (λ m. AreFirst me l.view slot (batch_digest k.batch) (quorum_size m) k.votes) opened.members
+    (subst (λ e. AreFirst me l.view slot e (quorum_size n) k.votes) b.digest_is
+    (subst (λ vs. AreFirst me l.view slot d (quorum_size n) vs) (sym votes_are) first)) in
+    report_of r me l.view k refl low_enough (ap batch_fits b.batch_is ∙ b.held.fits)
+    (subst (λ x. is_batch_of r me.cluster x ≡ true) (sym b.batch_is) b.held.homes) same_first
+    (omega (arith, opened.window.some, opened.members)) (omega (arith, opened.window.few, opened.members))
+    (λ v h. were v (subst (In v) votes_are h))
+
 -- ---- the certificate of a committed slot
 
 -- it is one, for its slot, and of clients whose home is here
@@ -201,6 +288,8 @@ pub record IsFormed (r : Roster) (me : ReplicaId) (l : Local) (slot : ℕ) (d : 
   pub round_is : round_of (commit_certificate me l slot d) ≡ slot
   pub certificate : IsCertificate (length r.sizes) (commit_certificate me l slot d)
   pub homes : IsTrue (is_batch_of r me.cluster (commit_certificate me l slot d).batch)
+  pub of : IsFormedOf r (commit_certificate me l slot d) l.view slot
+  pub spelled : fits (Message.Share (commit_certificate me l slot d)) ≡ true
 
 pub certificate_formed : (r : Roster) (me : ReplicaId) (l : Local) (slot : ℕ) (d : Hash32) → IsMember r me → IsLocalState r me l
     → committed_at l.slots slot ≡ Some d → IsFormed r me l slot d
@@ -216,6 +305,15 @@ certificate_formed r me l slot d member is committed =
     let votes_are : k.votes ≡ first_votes (quorum_size n) s.at.commits d = ap (λ x. first_votes (quorum_size n) (votes_in (λ t. t.commits) x) d) s.at_is in
     let votes_for = λ (v : Vote) (h : In v k.votes). first.votes_for v (subst (In v) votes_are h) in
     let some : 1 ≤ length k.votes = omega (arith, is.opened.window.some, first.count, ap length votes_are) in
+    let size : n ≡ size_of r me.cluster = is.opened.members in
+    let of : IsFormedOf r k l.view slot = record {
+      count = ap length votes_are ∙ (first.count ∙ ap quorum_size size);
+      rises = ap (λ vs. rises_by comes_before (map (λ v. v.signer) vs)) votes_are ∙ first.rises;
+      own = λ v h. first.own v (subst (In v) votes_are h);
+      votes_for = λ v h. subst (λ e. IsVoteFor l.view slot e v) b.digest_is (votes_for v h);
+      fit = λ v h. first.fit v (subst (In v) votes_are h);
+      batch_fit = ap batch_fits b.batch_is ∙ b.held.fits;
+    } in
     let round_is = slot_of_first slot k.votes some (λ v h. (votes_for v h).slot_is) in
     record {
       round_is = round_is;
@@ -228,6 +326,8 @@ certificate_formed r me l slot d member is committed =
         fits = ap batch_fits b.batch_is ∙ b.held.fits;
       };
       homes = subst (λ x. IsTrue (is_batch_of r me.cluster x)) (sym b.batch_is) b.held.homes;
+      of = of;
+      spelled = formed_fits r k l.view slot member.narrow member.few of;
     }
 
 -- so it may be kept, where its slot is within the limits
@@ -235,7 +335,7 @@ pub certificate_may : (r : Roster) (me : ReplicaId) (l : Local) (slot : ℕ) (d 
     → slot ≤ GREATEST_NUMBER → committed_at l.slots slot ≡ Some d → IsKeptCertificate r (commit_certificate me l slot d)
 certificate_may r me l slot d member is low_enough committed =
     let formed = certificate_formed r me l slot d member is committed in
-    record { certificate = formed.certificate; round_upto = omega (arith, formed.round_is, low_enough); homes = formed.homes }
+    record { certificate = formed.certificate; round_upto = omega (arith, formed.round_is, low_enough); homes = formed.homes; spelled = formed.spelled }
 
 -- a Commit that was heard as a message of its own is a heard statement
 as_statements : (r : Roster) (full : List Entry) (cluster view slot : ℕ) (d : Hash32)
@@ -253,18 +353,26 @@ as_statements r full cluster view slot d q = record {
 
 -- and it is what a round asks for
 pub certificate_backed : (r : Roster) (me : ReplicaId) (l : Local) (full : List Entry) (slot : ℕ) (d : Hash32) → IsMember r me → IsLocalState r me l
-    → AreHeard l.slots l.waiting l.kept l.checkpoints.votes full → committed_at l.slots slot ≡ Some d → IsBacked r full (commit_certificate me l slot d)
-certificate_backed r me l full slot d member is heard committed =
+    → ((m : Message) → In (Heard m) full → IsShaped r m) → AreHeard l.slots l.waiting l.kept l.checkpoints.votes full → committed_at l.slots slot ≡ Some d → IsBacked r full (commit_certificate me l slot d)
+certificate_backed r me l full slot d member is shaped heard committed =
     let w = l.slots in
     let formed = certificate_formed r me l slot d member is committed in
     let s = committed_slot w slot d is.opened.window committed in
     let b = agreed_batch (λ t. t.commits) r me l.view w slot d is.held s in
+    let n = w.members in
+    let known : IsBatchKnown full (commit_certificate me l slot d).batch = subst (IsBatchKnown full) (sym b.batch_is) (heard.proposals slot b.proposal b.there) in
+    let were = first_each (λ v. In (Heard (Message.Commit v)) full) (quorum_size n) s.at.commits d
+    (commits_heard w l.waiting l.kept l.checkpoints.votes full slot s.at heard s.at_is) in
+    let votes_are : (commit_certificate me l slot d).votes ≡ first_votes (quorum_size n) s.at.commits d =
+    ap (λ o. first_votes (quorum_size n) (votes_in (λ t. t.commits) o) d) s.at_is in
     let quorum = votes_heard r me Message.Commit full w.members l.view slot s.at.commits d is.opened.members
     (commits_kept r me l.view w slot s.at is.held s.at_is) (commits_heard w l.waiting l.kept l.checkpoints.votes full slot s.at heard s.at_is) s.agreed.quorum in
     record {
       view = l.view;
       committed = subst (λ j. QuorumHeard r (CommitHeard full) me.cluster l.view j (batch_digest (batch_or_null (batch_at w slot)))) (sym formed.round_is)
           (subst (λ e. QuorumHeard r (CommitHeard full) me.cluster l.view slot e) b.digest_is (as_statements r full me.cluster l.view slot d quorum));
-      known = subst (IsBatchKnown full) (sym b.batch_is) (heard.proposals slot b.proposal b.there);
+      known = known;
       homes = formed.homes;
+      share = formed_relay r full (commit_certificate me l slot d) l.view slot shaped formed.spelled (and_left (is_cluster r me.cluster) _ member.known)
+          formed.homes formed.of known (λ v h. were v (subst (In v) votes_are h));
     }

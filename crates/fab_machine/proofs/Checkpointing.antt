@@ -1,29 +1,21 @@
 -- A Checkpoint that is put, and a low mark that moves, keep the relation; and so do the messages that are considered again.
-use Rattle.std.proofs.Common.{◌≡◌, ℕ, zero, suc, ◌+◌, ◌<◌, ◌≤◌, true, ◌&&◌, ◌||◌, nat_eq, nat_lt, List, [], ◌∷◌, ◌++◌, length, map, Option, Some, None, inl, inr, refl, sym, ap, subst, ◌∙◌, arith}
-use Rattle.std.specs.Option.{IsSome, option_map}
-use Rattle.std.specs.List.{Contains}
-use Rattle.std.proofs.lemmas.Option.{same_Some}
-use Rattle.std.proofs.lemmas.List.Elements.{All-contains}
-use Rattle.std.proofs.lemmas.Bool.Decides.{nat_tests}
+use Rattle.std.proofs.Common.{◌≡◌, ℕ, zero, suc, ◌<◌, ◌≤◌, true, List, [], ◌∷◌, ◌++◌, length, Option, Some, None, inl, inr, refl, sym, subst, ◌∙◌, arith}
+use Rattle.std.specs.Option.{IsSome}
 use Rattle.fab_base.specs.Limits.{Roster}
-use Rattle.fab_base.specs.Quorums.{quorum_size, IsRisingFrom}
 use Rattle.fab_base.specs.declared.ids.Hash32.{Hash32}
 use Rattle.fab_base.specs.declared.ids.ReplicaId.{ReplicaId}
-use Rattle.fab_base.specs.declared.messages.StableVote.{StableVote}
 use Rattle.fab_base.specs.declared.messages.Message.{Message}
 use Rattle.fab_base.specs.declared.answers.Answer.{Answer}
-use Rattle.fab_base.proofs.Tests.{and_both}
-use Rattle.fab_rules.specs.Lists.{In, leads_by, rises_by, greatest}
-use Rattle.fab_rules.specs.Format.{comes_before}
+use Rattle.fab_rules.specs.Lists.{In, greatest}
 use Rattle.fab_rules.specs.Diary.{Entry, Heard, Said}
 use Rattle.fab_rules.specs.Rules.{KeepsRules, MaySay}
 use Rattle.fab_rules.specs.Growth.{after_saying}
-use Rattle.fab_rules.proofs.Lists.{of_filter, in_append_cases, in_from_contains, contains_from_in}
+use Rattle.fab_rules.proofs.Lists.{of_filter, in_append_cases}
 use Rattle.pbft_slots.specs.Window.{moved_to}
-use Rattle.checkpoint_core.specs.Checkpoints.{stable, first_for, proof_of}
-use Rattle.checkpoint_core.proofs.Ranking.{proof_full, proof_rises, proof_agrees, proof_counts}
+use Rattle.checkpoint_core.specs.Checkpoints.{stable, proof_of}
 use Rattle.fab_machine.specs.State.{Due, Local, wanted}
-use Rattle.fab_machine.specs.Items.{statements_by}
+use Rattle.fab_rules.specs.Statements.{signer_of}
+use Rattle.fab_machine.specs.Items.{is_own, statements_by}
 use Rattle.fab_machine.specs.Voting.{Told}
 use Rattle.fab_machine.specs.Hearing.{hear}
 use Rattle.fab_machine.specs.Checkpointing.{checkpoint_of, voted, stable_rounds, votes_or_none, after_move, heard_again, moved, next_due, move_to, checkpoint_by, checkpoint}
@@ -36,6 +28,7 @@ use Rattle.fab_machine.proofs.Noting.{is_some_by, noted_moved}
 use Rattle.fab_machine.proofs.MoreHeard.{backed_more}
 use Rattle.fab_machine.proofs.Shaping.{shaped_checkpoint}
 use Rattle.fab_machine.proofs.Marking.{marked_put, IsMoveTo, is_move_to}
+use Rattle.fab_machine.proofs.Proving.{stable_proof}
 use Rattle.fab_machine.proofs.States.{state_marked}
 use Rattle.fab_machine.proofs.CheckpointStates.{after_move_state}
 use Rattle.fab_machine.proofs.Locals.{local_beside, local_said, checkpoint_quotes}
@@ -92,7 +85,7 @@ voted_keeps r me l d rest full member rules first are =
     let said = local_said r me now m full (checkpoint_quotes full x) noted at in
     record {
       told = told_put r me now m [] full (own me) tt (told_nothing r me now (Said m ∷ full) (may, rules) said);
-      still = record { wanted_is = refl; executed_is = refl; last_is = refl };
+      still = record { view_is = refl; wanted_is = refl; executed_is = refl; last_is = refl };
     }
 
 -- ---- the low mark moves
@@ -101,52 +94,28 @@ reported_moved : (r : Roster) (me : ReplicaId) (l : Local) (low : ℕ) (full : L
     → AreReported r me l.view l.slots l.prepared full → AreReported r me l.view (moved_to l.slots low) (after_move l low).prepared full
 reported_moved r me l low full up places old s k h = old s k (certificate_before l.slots low l.prepared s k up places h)
 
--- members of one cluster with rising indexes rise
-rises_within : (cluster n least : ℕ) (votes : List StableVote) → IsRisingFrom least n (map (λ v. v.signer.index) votes)
-    → ((v : StableVote) → In v votes → v.signer.cluster ≡ cluster) → rises_by comes_before (map (λ v. v.signer) votes) ≡ true
-rises_within cluster n least [] rising own = refl
-rises_within cluster n least (v ∷ rest) rising own =
-    and_both (leads_by comes_before v.signer (map (λ x. x.signer) rest)) (rises_by comes_before (map (λ x. x.signer) rest)) (leads rest rising.2 (λ x h. own x (inr h)))
-    (rises_within cluster n (v.signer.index + 1) rest rising.2 (λ x h. own x (inr h)))
-  where
-    behind : (a b i j : ℕ) → a ≡ cluster → b ≡ cluster → i + 1 ≤ j → (nat_lt a b || (nat_eq a b && nat_lt i j)) ≡ true
-    behind a b i j e f h = grind (arith, nat_tests)
-
-    leads : (votes : List StableVote) → IsRisingFrom (v.signer.index + 1) n (map (λ x. x.signer.index) votes) → ((x : StableVote) → In x votes → x.signer.cluster ≡ cluster)
-        → leads_by comes_before v.signer (map (λ x. x.signer) votes) ≡ true
-    leads [] r o = refl
-    leads (x ∷ more) r o = behind v.signer.cluster x.signer.cluster v.signer.index x.signer.index (own v (inl refl)) (o x (inl refl)) r.0
-
 -- the stable round has its proof
 proof_there : (r : Roster) (me : ReplicaId) (l : Local) (low : ℕ) (digest : Hash32) (full : List Entry) → stable l.checkpoints low ≡ Some digest
     → AreLocal r me l full → IsProof r me low (votes_or_none (proof_of l.checkpoints low)) full
 proof_there r me l low digest full is are =
-    let c = l.checkpoints in
-    let votes = first_for c low digest in
-    let there : proof_of c low ≡ Some votes = ap (option_map (first_for c low)) is in
-    let same : votes_or_none (proof_of c low) ≡ votes = ap votes_or_none there in
-    let counts = proof_counts c low votes there in
-    let inside = λ (v : StableVote) (h : In v votes). in_from_contains c.votes v (All-contains (λ x. Contains c.votes x) votes v counts (contains_from_in votes v h)) in
-    let own = λ (v : StableVote) (h : In v votes). are.is.marked.own v (inside v h) in
-    let agrees = λ (v : StableVote) (h : In v votes).
-    All-contains (λ x. (x.round ≡ low) × (stable c low ≡ Some x.digest)) votes v (proof_agrees c low votes there) (contains_from_in votes v h) in
-    let proof : IsProof r me low votes full = record {
+    let p = stable_proof r me l.slots.low l.executed low l.checkpoints l.due digest is are.is.marked in
+    record {
       digest = digest;
-      count = proof_full c low votes are.is.marked.counted there ∙ ap quorum_size are.is.marked.members;
-      rises = rises_within me.cluster c.members 0 votes (proof_rises c low votes are.is.marked.counted there) own;
-      heard = λ v h. are.heard.checkpoints v (inside v h);
-      own = own;
-      agree = λ v h. (let a = agrees v h in (a.0, same_Some v.digest digest (sym a.1 ∙ is)));
-    } in
-    subst (λ p. IsProof r me low p full) (sym same) proof
+      count = p.count;
+      rises = p.rises;
+      heard = λ v h. record { message = Message.Checkpoint v; heard = are.heard.checkpoints v (p.counts v h); inside = inl refl };
+      own = p.own;
+      agree = p.agree;
+    }
 
-moved_local : (r : Roster) (me : ReplicaId) (l : Local) (low : ℕ) (digest : Hash32) (full : List Entry) → l.slots.low ≤ low → low ≤ l.executed → l.due ≡ []
+moved_local : (r : Roster) (me : ReplicaId) (l : Local) (low : ℕ) (digest : Hash32) (full : List Entry) → IsMoveTo l low → l.due ≡ []
     → stable l.checkpoints low ≡ Some digest → AreLocal r me l full → AreLocal r me (after_move l low) full
-moved_local r me l low digest full up done none is are =
+moved_local r me l low digest full to none is are =
+    let up : l.slots.low ≤ low = omega (arith, to.above) in
     let moves = moved_window l.slots low are.is.opened.window up in
     let h = are.heard in
     record {
-      is = after_move_state r me l low none up are.is;
+      is = after_move_state r me l low none to are.is;
       shaped = are.shaped;
       heard = record {
         proposals = λ slot p e. h.proposals slot p (moves.proposals slot p e);
@@ -181,10 +150,12 @@ again_answer r me t (m ∷ rest) =
 pub after_puts-append : (me : ReplicaId) (full : List Entry) (a b : List Out) → after_puts me full (a ++ b) ≡ after_puts me (after_puts me full a) b
 after_puts-append me full [] b = refl
 after_puts-append me full (Out.Put item ∷ rest) b = after_puts-append me (after_saying full (statements_by me item.message)) rest b
+after_puts-append me full (Out.Clear ∷ rest) b = after_puts-append me full rest b
 after_puts-append me full (Out.Certified k ∷ rest) b = after_puts-append me full rest b
+after_puts-append me full (Out.Entered base ∷ rest) b = after_puts-append me full rest b
 
 -- one after another, where what came of the first is followed by what came of the second
-told_both : (r : Roster) (me : ReplicaId) (old : Local) (t now : Told) (answer : Answer) (full : List Entry) → IsToldOf r me old t full
+pub told_both : (r : Roster) (me : ReplicaId) (old : Local) (t now : Told) (answer : Answer) (full : List Entry) → IsToldOf r me old t full
     → IsToldOf r me t.local now (after_puts me full t.outs)
     → IsToldOf r me old (record { answer = answer; local = now.local; outs = t.outs ++ now.outs }) full
 told_both r me old t now answer full first second =
@@ -198,19 +169,25 @@ told_both r me old t now answer full first second =
           | inl a ↦ subst (λ v. IsOfView v item.message) (sym second.still.wanted_is) (first.told.puts item a)
           | inr b ↦ second.told.puts item b
         ]);
+        own = λ item h. (elim (in_append_cases (Out.Put item) t.outs now.outs h) as (λ _. is_own me (signer_of item.message) ≡ true) [
+          | inl a ↦ first.told.own item a
+          | inr b ↦ second.told.own item b
+        ]);
         backed = λ k h. subst (λ f. IsBacked r f k) same (elim (in_append_cases (Out.Certified k) t.outs now.outs h) as (λ _. IsBacked r (after_puts me mid now.outs) k) [
           | inl a ↦ backed_more r mid (after_puts me mid now.outs) k (puts_hear me mid now.outs) (first.told.backed k a)
           | inr b ↦ second.told.backed k b
         ]);
+        plain = λ h. (elim (in_append_cases Out.Clear t.outs now.outs h) [ inl a ↦ first.told.plain a | inr b ↦ second.told.plain b ]);
       };
       still = record {
+        view_is = second.still.view_is ∙ first.still.view_is;
         wanted_is = second.still.wanted_is ∙ first.still.wanted_is;
         executed_is = second.still.executed_is ∙ first.still.executed_is;
         last_is = second.still.last_is ∙ first.still.last_is;
       };
     }
 
-again_keeps : (r : Roster) (me : ReplicaId) (old : Local) (t : Told) (messages : List Message) (full : List Entry) → IsMember r me → IsToldOf r me old t full
+pub again_keeps : (r : Roster) (me : ReplicaId) (old : Local) (t : Told) (messages : List Message) (full : List Entry) → IsMember r me → IsToldOf r me old t full
     → ((m : Message) → In m messages → In (Heard m) full) → IsToldOf r me old (heard_again r me t messages) full
 again_keeps r me old t [] full member first heard = first
 again_keeps r me old t (m ∷ rest) full member first heard =
@@ -221,12 +198,12 @@ again_keeps r me old t (m ∷ rest) full member first heard =
     (told_both r me old t now t.answer full first second) (λ x h. heard x (inr h))
 
 moved_keeps : (r : Roster) (me : ReplicaId) (l : Local) (low : ℕ) (digest : Hash32) (full : List Entry) → IsMember r me → KeepsRules r me full
-    → l.slots.low ≤ low → low ≤ l.executed → l.due ≡ [] → stable l.checkpoints low ≡ Some digest → AreLocal r me l full
+    → IsMoveTo l low → l.due ≡ [] → stable l.checkpoints low ≡ Some digest → AreLocal r me l full
     → IsToldOf r me l (moved r me l low) full
-moved_keeps r me l low digest full member rules up done none is are =
-    let at = moved_local r me l low digest full up done none is are in
+moved_keeps r me l low digest full member rules to none is are =
+    let at = moved_local r me l low digest full to none is are in
     again_keeps r me l (record { answer = Answer.Moved low; local = after_move l low; outs = [] }) l.kept full member
-    (record { told = told_nothing r me (after_move l low) full rules at; still = record { wanted_is = refl; executed_is = refl; last_is = refl } })
+    (record { told = told_nothing r me (after_move l low) full rules at; still = record { view_is = refl; wanted_is = refl; executed_is = refl; last_is = refl } })
     are.heard.messages
 
 -- ---- the event
@@ -237,7 +214,7 @@ checkpoint_keeps r me l full member rules are = by l.due refl
   where
     with_digest : (low : ℕ) → IsMoveTo l low → (o : Option Hash32) → stable l.checkpoints low ≡ o → IsSome o → l.due ≡ [] → IsToldOf r me l (moved r me l low) full
     with_digest low to None e some none = cc
-    with_digest low to (Some digest) e some none = moved_keeps r me l low digest full member rules (omega (arith, to.above)) to.done none e are
+    with_digest low to (Some digest) e some none = moved_keeps r me l low digest full member rules to none e are
 
     move : (n : ℕ) → greatest (stable_rounds l) ≡ n → l.due ≡ [] → IsToldOf r me l (move_to r me l n) full
     move zero e none = unmoved_told r me l (Answer.NotDue (next_due r.interval l.executed)) full rules are

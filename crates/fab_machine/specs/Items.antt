@@ -1,6 +1,6 @@
 -- What a replica puts into its outbox, and what it says when it sends that.
-use Rattle.std.specs.Prelude.{ℕ, List, [], ◌∷◌, map, nat_eq, Bool, false, ◌&&◌, Option, Some, None, if◌then◌else◌}
-use Rattle.std.specs.List.{flat_map, range_with_len}
+use Rattle.std.specs.Prelude.{ℕ, List, [], ◌∷◌, map, nat_eq, Bool, true, false, ◌&&◌, Option, Some, None, if◌then◌else◌}
+use Rattle.std.specs.List.{filter, flat_map, range_with_len}
 use Rattle.fab_base.specs.Limits.{Roster}
 use Rattle.fab_base.specs.Roster.{size_of}
 use Rattle.fab_base.specs.declared.ids.ReplicaId.{ReplicaId}
@@ -33,8 +33,23 @@ member_of me index = record { cluster = me.cluster; index = index }
 abbrev pub cluster_of : Roster → ReplicaId → List ReplicaId
 cluster_of r me = map (member_of me) (range_with_len 0 (size_of r me.cluster))
 
+abbrev pub cluster_item : Roster → ReplicaId → Message → Item
+cluster_item r me m = record { message = m; to = cluster_of r me }
+
 abbrev pub to_cluster : Roster → ReplicaId → Message → Out
-to_cluster r me m = Out.Put (record { message = m; to = cluster_of r me })
+to_cluster r me m = Out.Put (cluster_item r me m)
+
+-- ---- leaving a view
+
+-- proposals and votes are of a view, and don't stay when it is left
+abbrev pub stays : Message → Bool
+stays (Message.PrePrepare p) = false
+stays (Message.Prepare v) = false
+stays (Message.Commit v) = false
+stays m = true
+
+abbrev pub those_that_stay : List Item → List Item
+those_that_stay items = filter (λ item. stays item.message) items
 
 -- ---- sending
 

@@ -1,5 +1,5 @@
 -- What is met one after another: what is told of the whole is what is told of the rest.
-use Rattle.std.proofs.Common.{◌≡◌, ℕ, suc, add-one, ◌+◌, ◌<◌, ◌≤◌, List, [], ◌∷◌, ◌++◌, map, length, get_or, drop, Result, Ok, Err, refl, sym, ap, ◌∙◌, subst}
+use Rattle.std.proofs.Common.{◌≡◌, ℕ, suc, add-one, ◌+◌, ◌<◌, ◌≤◌, true, false, List, [], ◌∷◌, ◌++◌, map, length, get_or, drop, Result, Ok, Err, refl, sym, ap, ◌∙◌, subst}
 use Rattle.std.specs.List.{flat_map}
 use Rattle.std.proofs.Math.ListN.{drop_of_length-le}
 use Rattle.std.proofs.lemmas.List.{drop_more}
@@ -11,15 +11,17 @@ use Rattle.fab_rules.specs.Statements.{batches_of_change}
 use Rattle.run_words.specs.declared.logs.Entry.{Entry}
 use Rattle.run_words.specs.declared.logs.Trace.{Trace}
 use Rattle.run_words.specs.declared.logs.Transcript.{Transcript}
+use Rattle.run_worlds.specs.Worlds.{is_correct_one, correct_of}
 use Rattle.run_worlds.specs.Sights.{Sight, and_then, met_with, first_clash, after_batches, after_entries, after_traces, evidence_in, first_evidence}
 use Rattle.fabric_audit.specs.declared.stops.Stop.{Stop}
 use Rattle.fabric_audit.specs.Journals.{after_entry}
 use Rattle.fabric_audit.specs.Meeting.{Firsts, AreFirsts, Finds, Tells, Meets}
+use Rattle.fabric_audit.proofs.CorrectOnes.{correct_first, correct_later, correct_none}
 
-abbrev Batches : Type 0
+abbrev pub Batches : Type 0
 Batches = List (List Request)
 
-abbrev Telling : Type 0
+abbrev pub Telling : Type 0
 Telling = Batches → Sight
 
 -- the rest tells what the whole does, of what is met by now
@@ -110,26 +112,38 @@ next_entry t i journal place e below is met =
     by (Entry.Sent item) rest = refl
     by Entry.Executed rest = refl
     by Entry.Marked rest = refl
+    by Entry.TimedOut rest = refl
 
 pub no_entry : (t : Transcript) (i : ReplicaId) (journal : List Entry) (place : ℕ) → length journal ≤ place → (met : Batches)
     → after_entries t i place met (drop place journal) ≡ Ok met
 no_entry t i journal place past met = ap (λ (l : List Entry). after_entries t i place met l) (drop_of_length-le journal past)
 
-pub next_trace : (t : Transcript) (traces : List Trace) (i : ℕ) (trace : Trace) → i < length traces → trace ≡ get_or traces i trace
-    → IsStep (λ met. after_traces t met (drop i traces)) (λ met. after_entries t trace.id 0 met trace.journal)
-    (λ met. after_traces t met (drop (i + 1) traces))
-next_trace t traces i trace below is met =
-    ap (λ (l : List Trace). after_traces t met l) (drop_more traces i trace below)
-    ∙ ap (λ (x : Trace). after_traces t met (x ∷ drop (i + 1) traces)) (sym is)
+-- the correct ones from a place on
+abbrev pub rest_of : Transcript → List Trace → ℕ → Telling
+rest_of t traces i met = after_traces t met (correct_of (drop i traces))
 
-pub no_trace : (t : Transcript) (traces : List Trace) (i : ℕ) → length traces ≤ i → (met : Batches) → after_traces t met (drop i traces) ≡ Ok met
-no_trace t traces i past met = ap (λ (l : List Trace). after_traces t met l) (drop_of_length-le traces past)
+-- a correct trace is gone through
+pub next_trace : (t : Transcript) (traces : List Trace) (i : ℕ) (trace : Trace) → i < length traces → trace ≡ get_or traces i trace
+    → is_correct_one trace ≡ true
+    → IsStep (rest_of t traces i) (λ met. after_entries t trace.id 0 met trace.journal) (rest_of t traces (i + 1))
+next_trace t traces i trace below is correct met =
+    ap (λ (l : List Trace). after_traces t met l) (correct_first traces i trace below is correct)
+
+-- a faulty one isn't
+pub over_trace : (t : Transcript) (traces : List Trace) (i : ℕ) (trace : Trace) (old now : Firsts) (whole : Telling) → i < length traces
+    → trace ≡ get_or traces i trace → is_correct_one trace ≡ false → IsLeft old now whole (rest_of t traces i)
+    → IsLeft old now whole (rest_of t traces (i + 1))
+over_trace t traces i trace old now whole below is faulty left =
+    subst (λ (l : List Trace). IsLeft old now whole (λ met. after_traces t met l)) (correct_later traces i trace below is faulty) left
+
+pub no_trace : (t : Transcript) (traces : List Trace) (i : ℕ) → length traces ≤ i → (met : Batches) → rest_of t traces i met ≡ Ok met
+no_trace t traces i past met = ap (λ (l : List Trace). after_traces t met l) (correct_none traces i past)
 
 -- ---- the whole run
 
-pub found : (t : Transcript) (old now : Firsts) (r : Result (Unit {0}) Stop) → AreFirsts old ([] ∷ []) → Meets old r now (λ met. after_traces t met t.traces)
+pub found : (t : Transcript) (old now : Firsts) (r : Result (Unit {0}) Stop) → AreFirsts old ([] ∷ []) → Meets old r now (λ met. after_traces t met (correct_of t.traces))
     → Finds r (first_evidence t)
-found t old now r h meets = by r (after_traces t ([] ∷ []) t.traces) (meets ([] ∷ []) h)
+found t old now r h meets = by r (after_traces t ([] ∷ []) (correct_of t.traces)) (meets ([] ∷ []) h)
   where
     by : (r : Result (Unit {0}) Stop) (s : Sight) → Tells r now s → Finds r (evidence_in s)
     by (Ok x) (Ok met) told = refl

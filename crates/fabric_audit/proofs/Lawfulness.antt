@@ -31,6 +31,7 @@ entry_is m Entry.Nudged h = refl
 entry_is m (Entry.Sent item) h = refl
 entry_is m Entry.Executed h = refl
 entry_is m Entry.Marked h = refl
+entry_is m Entry.TimedOut h = refl
 
 entries_fit : (m : Maker) (journal : List Entry) → AreSound m journal → list_all entry_fits journal ≡ true
 entries_fit m [] h = refl

@@ -1,5 +1,5 @@
 -- The replicas of a script's run: whose each trace is, and the ledger that it left.
-use Rattle.std.proofs.Common.{◌≡◌, ℕ, suc, ◌+◌, ◌-◌, ◌<◌, true, ◌&&◌, List, [], ◌∷◌, map, length, slice_index, inl, inr, refl, sym, ap, subst, ◌∙◌, arith}
+use Rattle.std.proofs.Common.{◌≡◌, ℕ, suc, ◌+◌, ◌-◌, ◌<◌, Bool, true, false, cond, ◌&&◌, List, [], ◌∷◌, map, length, slice_index, inl, inr, refl, sym, ap, subst, ◌∙◌, arith}
 use Rattle.std.specs.Prelude.{IsTrue}
 use Rattle.std.specs.List.{All, list_all, range_with_len}
 use Rattle.std.proofs.lemmas.List.Elements.{All-nil, All-cons}
@@ -9,6 +9,7 @@ use Rattle.fab_base.specs.Roster.{is_replica, size_of}
 use Rattle.fab_base.specs.declared.ids.ReplicaId.{ReplicaId}
 use Rattle.fab_rules.specs.Diary as diaries
 use Rattle.fab_rules.specs.Diary.{ledger}
+use Rattle.fab_rules.specs.declared.blocks.Block.{Block}
 use Rattle.fab_rules.specs.Lists.{In}
 use Rattle.fab_rules.proofs.Lists.{in_append_cases, of_map, of_range_with_len}
 use Rattle.fab_rules.proofs.Saying.{ledger-after_saying}
@@ -18,7 +19,6 @@ use Rattle.fab_machine.specs.Step.{Event, step}
 use Rattle.fab_machine.specs.Diaries.{MayCome, state_from, diary_after, diary_from, diary_of}
 use Rattle.fab_machine.specs.Relation.{AreRelated}
 use Rattle.fab_machine.proofs.Steps.{step_keeps, starts_related}
-use Rattle.bft_verify.proofs.Soundness.{shaped_from_sound}
 use Rattle.fault_script.specs.declared.scripts.Script.{Script}
 use Rattle.fault_script.specs.declared.scripts.Wish.{Wish}
 use Rattle.fault_script.specs.Scripts.{keeps_limits}
@@ -26,15 +26,15 @@ use Rattle.run_words.specs.Journal.{Maker, event_of, state, diary, IsMade, AreSo
 use Rattle.run_words.specs.Lawful.{AreEach, Kept}
 use Rattle.run_words.specs.declared.logs.Entry.{Entry}
 use Rattle.run_words.specs.declared.logs.Trace.{Trace}
-use Rattle.run_words.proofs.Replays.{same_diary}
+use Rattle.run_words.proofs.Replays.{may_come, same_diary}
 use Rattle.replica_log.specs.Replayed.{IsReplayable, state_after}
 use Rattle.script_keys.specs.Keys.{members_of, replicas_from, replicas_of}
 use Rattle.script_keys.proofs.Wishes.{asked_in}
 use Rattle.run_worlds.specs.Scripts.{roster_of, maker_of, makers_of}
-use Rattle.run_worlds.specs.Worlds.{ledgers_in}
+use Rattle.run_worlds.specs.Worlds.{is_correct_one, ledgers_in}
 use Rattle.run_worlds.specs.Endings.{has_effect}
 use Rattle.run_worlds.proofs.ScriptLimits.{within_limits}
-use Rattle.fabric_audit.specs.Stamps.{is_served_in}
+use Rattle.fabric_audit.specs.Stamps.{stamps_of, is_served, is_served_in}
 use Rattle.fabric_audit.proofs.LastStamps.{effect_is}
 
 -- ---- the replicas of a script take part
@@ -119,23 +119,13 @@ related r me s past (e ∷ rest) limits known may rel =
     related r me (step r me s e).state (diary_after me s e (step r me s e).state past) rest limits known (λ x h. may x (inr h))
     (step_keeps r me s past e limits known (may e (inl refl)) rel)
 
-may_come : (m : Maker) (journal : List Entry) → AreSound m journal → (e : Event) → In e (map event_of journal) → MayCome m.roster e
-may_come m [] h e i = absurd i
-may_come m (Entry.Heard origin x ∷ rest) h e (inl q) = subst (MayCome m.roster) q (shaped_from_sound m.roster m.ring x h.0)
-may_come m (Entry.Proposed ∷ rest) h e (inl q) = subst (MayCome m.roster) q tt
-may_come m (Entry.Nudged ∷ rest) h e (inl q) = subst (MayCome m.roster) q tt
-may_come m (Entry.Sent sent ∷ rest) h e (inl q) = subst (MayCome m.roster) q tt
-may_come m (Entry.Executed ∷ rest) h e (inl q) = subst (MayCome m.roster) q tt
-may_come m (Entry.Marked ∷ rest) h e (inl q) = subst (MayCome m.roster) q tt
-may_come m (x ∷ rest) h e (inr i) = may_come m rest h.1 e i
-
 pub ledger_is : (m : Maker) (journal : List Entry) → IsWithinLimits m.roster → IsTrue (is_replica m.roster m.id) → IsMade m journal → AreSound m journal
     → (state m journal).rounds.blocks ≡ ledger (diary m journal)
 unfolding state
 ledger_is m journal limits known made sound =
     let rel = related m.roster m.id (fresh m.roster m.id) [] (map event_of journal) limits known (may_come m journal sound)
     (starts_related m.roster m.id limits known) in
-    rel.rounds.blocks_are
+    rel.facts.rounds.blocks_are
     ∙ ledger-after_saying (diary_of m.roster m.id (map event_of journal)) (statements_in m.id (state m journal).outbox)
     ∙ ap ledger (sym (same_diary m journal made))
 
@@ -144,6 +134,12 @@ ledger_is m journal limits known made sound =
 state_is : (script : Script) (t : Trace) → state_after (roster_of script) t ≡ state (maker_by script t) t.journal
 unfolding state
 state_is script t = refl
+
+-- a ledger more, where its replica is correct
+one_more : (correct : Bool) (p : List Block → Bool) (here : Bool) (l : List Block) (rest : Bool) (ls : List (List Block)) → here ≡ p l
+    → rest ≡ list_all p ls → (cond correct here true && rest) ≡ list_all p (cond correct (l ∷ ls) ls)
+one_more true p here l rest ls e later = ap (λ b. b && rest) e ∙ ap (λ b. p l && b) later
+one_more false p here l rest ls e later = later
 
 pub effective : (script : Script) (w : Wish) (makers : List Maker) (traces : List Trace) → keeps_limits script ≡ true → In w script.requests
     → AreOf script makers → AreEach Kept makers traces
@@ -161,9 +157,9 @@ effective script w (m ∷ makers) (t ∷ traces) limits asked o k =
     ∙ ledger_is m t.journal (subst IsWithinLimits roster (within_limits script limits))
     (subst (λ (r : Roster). IsTrue (is_replica r m.id)) roster mine.member) k.0.replays k.0.sound in
     let a = asked_in script w limits asked in
-    let here : is_served_in script w t ≡ has_effect (roster_of script) w (ledger (diary m t.journal)) =
+    let here : is_served (stamps_of script t) w ≡ has_effect (roster_of script) w (ledger (diary m t.journal)) =
     effect_is (roster_of script) w (state_after (roster_of script) t).rounds.blocks a.stamp.0 a.number
     ∙ ap (has_effect (roster_of script) w) blocks in
-    ap (λ b. b && list_all (is_served_in script w) traces) here
-    ∙ ap (λ b. has_effect (roster_of script) w (ledger (diary m t.journal)) && b)
+    one_more (is_correct_one t) (has_effect (roster_of script) w) (is_served (stamps_of script t) w) (ledger (diary m t.journal))
+    (list_all (is_served_in script w) traces) (ledgers_in makers traces) here
     (effective script w makers traces limits asked (λ n h. o n (inr h)) k.1)

@@ -1,3 +1,4 @@
+pub mod CorrectOnes
 pub mod Prefixes
 pub mod LastStamps
 pub mod Ledgers

@@ -125,3 +125,25 @@ named_once script x = from (nat_le 1 x.cluster) refl
     from false e =
         let none : x.cluster < 1 = grind (arith, nat_tests) in
         low_cluster 1 script.sizes x none
+
+-- where the test passes once in all, or never, so does a number
+pub sum_once : {X : Type 0} (p : X → Bool) (n : ℕ) (b : Bool) (xs : List X) → sum_by (λ x. once (p x)) xs ≡ once b
+    → sum_by (λ x. cond (p x) n 0) xs ≡ cond b n 0
+sum_once p n true [] e = absurd cc
+sum_once p n false [] e = refl
+sum_once p n b (x ∷ xs) e = go (p x) b (sum_by-cons (λ y. once (p y)) x xs) (sum_by-cons (λ y. cond (p y) n 0) x xs) e (λ d h. sum_once p n d xs h)
+  where
+    go : (a c : Bool) → sum_by (λ y. once (p y)) (x ∷ xs) ≡ once a + sum_by (λ y. once (p y)) xs
+        → sum_by (λ y. cond (p y) n 0) (x ∷ xs) ≡ cond a n 0 + sum_by (λ y. cond (p y) n 0) xs
+        → sum_by (λ y. once (p y)) (x ∷ xs) ≡ once c
+        → ((d : Bool) → sum_by (λ y. once (p y)) xs ≡ once d → sum_by (λ y. cond (p y) n 0) xs ≡ cond d n 0)
+        → sum_by (λ y. cond (p y) n 0) (x ∷ xs) ≡ cond c n 0
+    go true true one all e later =
+        let none : sum_by (λ y. once (p y)) xs ≡ 0 = omega (arith, one, e) in
+        let rest = later false none in
+        omega (arith, all, rest)
+    go true false one all e later = omega (arith, one, e)
+    go false c one all e later =
+        let same : sum_by (λ y. once (p y)) xs ≡ once c = omega (arith, one, e) in
+        let rest = later c same in
+        omega (arith, all, rest)

@@ -21,7 +21,7 @@ use Rattle.script_keys.specs.Requests.{copies_of}
 use Rattle.run_worlds.specs.Scripts.{roster_of, maker_of, makers_of, script_rules}
 use Rattle.fabric_audit.specs.Counts.{is_heard, taken_by, sent_by, copies_for, all_taken, all_put}
 use Rattle.fabric_audit.proofs.Sums.{sum_same, sum_both, sum_ones, sum_map, sum_swap}
-use Rattle.fabric_audit.proofs.Members.{once, named_once}
+use Rattle.fabric_audit.proofs.Members.{once, named_once, sum_once}
 use Rattle.fabric_audit.proofs.Copies.{copies_counted}
 
 -- ---- replicas with their traces
@@ -32,6 +32,10 @@ each_both P Q R f [] [] p q = tt
 each_both P Q R f [] (t ∷ traces) p q = absurd p
 each_both P Q R f (m ∷ makers) [] p q = absurd p
 each_both P Q R f (m ∷ makers) (t ∷ traces) p q = (f m t p.0 q.0, each_both P Q R f makers traces p.1 q.1)
+
+pub each_as : (P Q : Maker → Trace → Type 0) → ((m : Maker) (t : Trace) → P m t → Q m t) → (makers : List Maker) (traces : List Trace)
+    → AreEach P makers traces → AreEach Q makers traces
+each_as P Q f makers traces p = each_both P P Q (λ m t a b. f m t a) makers traces p p
 
 abbrev sum_each : (Maker → Trace → ℕ) → List Maker → List Trace → ℕ
 sum_each f [] traces = 0
@@ -111,6 +115,7 @@ heard_both p journal =
     one (Entry.Sent item) = omega arith
     one Entry.Executed = omega arith
     one Entry.Marked = omega arith
+    one Entry.TimedOut = omega arith
 
 named_both : (p : Test) (from : ReplicaId) (o : Option Parcel) → named_counted p from o + named_counted (other p) from o ≡ named_counted any from o
 named_both p from None = omega arith
@@ -136,17 +141,20 @@ pending_both p copies =
     sym (sum_both (λ (c : Pending). once (p c.origin c.load)) (λ (c : Pending). once (not (p c.origin c.load))) copies)
     ∙ sum_same (λ (c : Pending). once (p c.origin c.load) + once (not (p c.origin c.load))) (λ (c : Pending). 1) copies (λ c i. one_of_both (p c.origin c.load))
 
-two_of_both : (a b : Bool) → once (a && b) + once (a && not b) ≡ once (a && true)
-two_of_both true b = one_of_both b
-two_of_both false b = omega arith
+two_of_both : (a b : Bool) (n : ℕ) → cond (a && b) n 0 + cond (a && not b) n 0 ≡ cond (a && true) n 0
+two_of_both true true n = omega arith
+two_of_both true false n = omega arith
+two_of_both false b n = omega arith
 
 parcels_both : (p : Test) (to from : ReplicaId) (parcels : List Parcel)
     → parcels_counted p to from parcels + parcels_counted (other p) to from parcels ≡ parcels_counted any to from parcels
 parcels_both p to from parcels =
     let test : Parcel → Bool = λ q. p (Origin.Replica from q.time) q.bytes in
-    sym (sum_both (λ (q : Parcel). once (is_same to q.to && test q)) (λ (q : Parcel). once (is_same to q.to && not (test q))) parcels)
-    ∙ sum_same (λ (q : Parcel). once (is_same to q.to && test q) + once (is_same to q.to && not (test q))) (λ (q : Parcel). once (is_same to q.to && true))
-    parcels (λ q i. two_of_both (is_same to q.to) (test q))
+    let passed : Parcel → ℕ = λ q. cond (is_same to q.to && test q) q.passes 0 in
+    let others : Parcel → ℕ = λ q. cond (is_same to q.to && not (test q)) q.passes 0 in
+    sym (sum_both passed others parcels)
+    ∙ sum_same (λ (q : Parcel). passed q + others q) (λ (q : Parcel). cond (is_same to q.to && true) q.passes 0)
+    parcels (λ q i. two_of_both (is_same to q.to) (test q) q.passes)
 
 put_both : (p : Test) (r : Rules) (traces : List Trace) (to : ReplicaId)
     → put_counted p r traces to + put_counted (other p) r traces to ≡ put_counted any r traces to
@@ -184,6 +192,7 @@ heard_all journal = sum_same (λ (e : Entry). heard_once any e) (λ (e : Entry).
     one (Entry.Sent item) = refl
     one Entry.Executed = refl
     one Entry.Marked = refl
+    one Entry.TimedOut = refl
 
 taken_is : (traces : List Trace) (m : Maker) (t : Trace) → AreRefused traces m t → used_counted any traces m t ≡ taken_by t
 taken_is traces m t h = let a = heard_all t.journal in let b = refused_all traces m t h in omega arith
@@ -200,31 +209,38 @@ of_counted i (p ∷ l) = go (is_same i p.0) (of_counted i l) ∙ sym (sum_by-con
     go true rest = let one = sum_by-cons (λ (c : Pending). 1) p.1 (of i l) in omega arith
     go false rest = omega arith
 
--- summed over the script's replicas
-over_replicas : {X : Type 0} (script : Script) (to : X → ReplicaId) (l : List X)
-    → sum_by (λ i. sum_by (λ x. once (is_same i (to x))) l) (replicas_of script) ≡ sum_by (λ x. once (is_replica (roster_of script) (to x))) l
-over_replicas script to l =
-    sum_swap (λ (i : ReplicaId) x. once (is_same i (to x))) (replicas_of script) l
-    ∙ sum_same (λ x. sum_by (λ (i : ReplicaId). once (is_same i (to x))) (replicas_of script)) (λ x. once (is_replica (roster_of script) (to x))) l
-    (λ x h. named_once script (to x))
+-- summed over the script's replicas, each so many times
+over_replicas : {X : Type 0} (script : Script) (to : X → ReplicaId) (many : X → ℕ) (l : List X)
+    → sum_by (λ i. sum_by (λ x. cond (is_same i (to x)) (many x) 0) l) (replicas_of script)
+    ≡ sum_by (λ x. cond (is_replica (roster_of script) (to x)) (many x) 0) l
+over_replicas script to many l =
+    sum_swap (λ (i : ReplicaId) x. cond (is_same i (to x)) (many x) 0) (replicas_of script) l
+    ∙ sum_same (λ x. sum_by (λ (i : ReplicaId). cond (is_same i (to x)) (many x) 0) (replicas_of script))
+    (λ x. cond (is_replica (roster_of script) (to x)) (many x) 0) l
+    (λ x h. sum_once (λ (i : ReplicaId). is_same i (to x)) (many x) (is_replica (roster_of script) (to x)) (replicas_of script) (named_once script (to x)))
 
 and_true : (b : Bool) → (b && true) ≡ b
 and_true true = refl
 and_true false = refl
 
-parcels_are : (to from : ReplicaId) (parcels : List Parcel) → parcels_counted any to from parcels ≡ sum_by (λ q. once (is_same to q.to)) parcels
+-- how often a parcel comes to a replica
+abbrev comes_to : ReplicaId → Parcel → ℕ
+comes_to i q = cond (is_same i q.to) q.passes 0
+
+parcels_are : (to from : ReplicaId) (parcels : List Parcel) → parcels_counted any to from parcels ≡ sum_by (comes_to to) parcels
 parcels_are to from parcels =
-    sum_same (λ (q : Parcel). once (is_same to q.to && true)) (λ (q : Parcel). once (is_same to q.to)) parcels (λ q i. ap once (and_true (is_same to q.to)))
+    sum_same (λ (q : Parcel). cond (is_same to q.to && true) q.passes 0) (comes_to to) parcels
+    (λ q i. ap (λ b. cond b q.passes 0) (and_true (is_same to q.to)))
 
 -- to one receiver
 abbrev put_to : Script → List Trace → ReplicaId → ℕ
 put_to script traces i =
-    sum_by (λ p. once (is_same i p.0)) (copies_of script) + sum_by (λ t. sum_by (λ q. once (is_same i q.to)) t.parcels) traces
+    sum_by (λ p. once (is_same i p.0)) (copies_of script) + sum_by (λ t. sum_by (comes_to i) t.parcels) traces
 
 put_is : (script : Script) (traces : List Trace) (i : ReplicaId) → put_counted any (script_rules script) traces i ≡ put_to script traces i
 put_is script traces i =
     let a = of_counted i (copies_of script) in
-    let b = sum_same (λ (t : Trace). parcels_counted any i t.id t.parcels) (λ (t : Trace). sum_by (λ (q : Parcel). once (is_same i q.to)) t.parcels) traces
+    let b = sum_same (λ (t : Trace). parcels_counted any i t.id t.parcels) (λ (t : Trace). sum_by (comes_to i) t.parcels) traces
     (λ t h. parcels_are i t.id t.parcels) in
     omega (arith, a, b)
 
@@ -235,14 +251,14 @@ put_all script traces limits =
     let each = sum_same (λ (i : ReplicaId). put_counted any (script_rules script) traces i) (put_to script traces) (replicas_of script)
     (λ i h. put_is script traces i) in
     let both = sum_both (λ (i : ReplicaId). sum_by (λ (p : ReplicaId × Pending). once (is_same i p.0)) (copies_of script))
-    (λ (i : ReplicaId). sum_by (λ (t : Trace). sum_by (λ (q : Parcel). once (is_same i q.to)) t.parcels) traces) (replicas_of script) in
-    let copies = over_replicas script (λ (p : ReplicaId × Pending). p.0) (copies_of script) in
+    (λ (i : ReplicaId). sum_by (λ (t : Trace). sum_by (comes_to i) t.parcels) traces) (replicas_of script) in
+    let copies = over_replicas script (λ (p : ReplicaId × Pending). p.0) (λ p. 1) (copies_of script) in
     let known = copies_counted script limits in
-    let swapped = sum_swap (λ (i : ReplicaId) (t : Trace). sum_by (λ (q : Parcel). once (is_same i q.to)) t.parcels) (replicas_of script) traces in
-    let sent = sum_same (λ (t : Trace). sum_by (λ (i : ReplicaId). sum_by (λ (q : Parcel). once (is_same i q.to)) t.parcels) (replicas_of script))
-    (sent_by (roster_of script)) traces (λ t h. over_replicas script (λ (q : Parcel). q.to) t.parcels) in
+    let swapped = sum_swap (λ (i : ReplicaId) (t : Trace). sum_by (comes_to i) t.parcels) (replicas_of script) traces in
+    let sent = sum_same (λ (t : Trace). sum_by (λ (i : ReplicaId). sum_by (comes_to i) t.parcels) (replicas_of script))
+    (sent_by (roster_of script)) traces (λ t h. over_replicas script (λ (q : Parcel). q.to) (λ q. q.passes) t.parcels) in
     whole ∙ each ∙ both
-    ∙ ap (λ n. n + sum_by (λ (i : ReplicaId). sum_by (λ (t : Trace). sum_by (λ (q : Parcel). once (is_same i q.to)) t.parcels) traces) (replicas_of script))
+    ∙ ap (λ n. n + sum_by (λ (i : ReplicaId). sum_by (λ (t : Trace). sum_by (comes_to i) t.parcels) traces) (replicas_of script))
     (copies ∙ known)
     ∙ ap (λ n. sum_by (copies_for (roster_of script)) script.requests + n) (swapped ∙ sent)
 

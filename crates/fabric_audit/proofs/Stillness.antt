@@ -1,15 +1,19 @@
 -- A replica at which no event would make an entry.
-use Rattle.std.proofs.Common.{◌≡◌, ℕ, Bool, true, false, not, ◌&&◌, ◌||◌, List, [], ◌∷◌, length, nat_le, inl, inr, refl, sym, ap, subst, ◌∙◌}
+use Rattle.std.proofs.Common.{◌≡◌, ℕ, Bool, true, false, not, ◌&&◌, ◌||◌, ◌⊎◌, List, [], ◌∷◌, length, nat_le, inl, inr, refl, sym, ap, subst, ◌∙◌}
 use Rattle.std.specs.List.{list_all}
 use Rattle.fab_base.proofs.Tests.{and_left, and_right, and_both}
+use Rattle.fab_base.specs.declared.ids.ReplicaId.{ReplicaId}
 use Rattle.fab_base.specs.declared.ids.Who.TheVariants.{Replica}
+use Rattle.fab_base.specs.declared.answers.Item.{Item}
+use Rattle.fab_machine.specs.State as states
 use Rattle.fab_machine.specs.Step as machine
-use Rattle.fab_machine.specs.Step.{Event, first}
+use Rattle.fab_machine.specs.Step.{Event, makes_entry, emit_step, first}
 use Rattle.fault_script.specs.declared.scripts.Script.{Script}
 use Rattle.replica_core.specs.Cores.{Machine}
-use Rattle.run_words.specs.Journal.{Maker, state, needs_leaf, is_blocked, moves, signed_of}
+use Rattle.run_words.specs.Journal.{Maker, state, waits, needs_leaf, is_blocked, moves, signed_of}
 use Rattle.run_words.specs.Lawful.{AreEach, Kept, IsSent, IsIdle}
 use Rattle.run_words.specs.declared.movers.Mover.{Mover}
+use Rattle.run_words.specs.declared.logs.Entry.{Entry}
 use Rattle.run_words.specs.declared.logs.Trace.{Trace}
 use Rattle.run_words.proofs.Replays.{sent_or_blocked}
 use Rattle.script_keys.specs.Keys.{leaves_of}
@@ -18,12 +22,13 @@ use Rattle.run_worlds.specs.Scripts.{roster_of}
 use Rattle.fabric_audit.specs.Still.{is_still_at, is_still}
 use Rattle.fabric_audit.proofs.Ledgers.{maker_by, IsOf, AreOf, named_by}
 
-pub still_is : (script : Script) (t : Trace) (core : Machine) (leaves used : ℕ) → core ≡ core_after (roster_of script) t → leaves ≡ leaves_of script (Replica t.id)
-    → used ≡ length t.signed → is_still_at t.id core leaves used ≡ is_still script t
-still_is script t core leaves used a b c =
-    ap (λ (x : Machine). is_still_at t.id x leaves used) a
-    ∙ ap (λ n. is_still_at t.id (core_after (roster_of script) t) n used) b
-    ∙ ap (is_still_at t.id (core_after (roster_of script) t) (leaves_of script (Replica t.id))) c
+pub still_is : (script : Script) (timeouts : Bool) (t : Trace) (core : Machine) (leaves used : ℕ) → core ≡ core_after (roster_of script) t
+    → leaves ≡ leaves_of script (Replica t.id)
+    → used ≡ length t.signed → is_still_at t.id core leaves used timeouts ≡ is_still script timeouts t
+still_is script timeouts t core leaves used a b c =
+    ap (λ (x : Machine). is_still_at t.id x leaves used timeouts) a
+    ∙ ap (λ n. is_still_at t.id (core_after (roster_of script) t) n used timeouts) b
+    ∙ ap (λ n. is_still_at t.id (core_after (roster_of script) t) (leaves_of script (Replica t.id)) n timeouts) c
 
 -- ---- what the test tells
 
@@ -46,94 +51,124 @@ is_behind true true h = refl
 is_behind true false h = absurd cc
 is_behind false b h = refl
 
--- no event would make an entry
-abbrev AreIdle : Maker → Trace → Type 0
-AreIdle m t = (moves m t.journal Mover.Batch ≡ false) × (moves m t.journal Mover.Nudge ≡ false) × (moves m t.journal Mover.Execute ≡ false)
-    × (moves m t.journal Mover.Checkpoint ≡ false) × (moves m t.journal Mover.Emit ≡ false)
+-- an event that is asked about
+where_asked : (asked e : Bool) → not (asked && e) ≡ true → asked ≡ true → e ≡ false
+where_asked true e h is = not_true e h
+where_asked false e h is = absurd cc
 
-module _ (script : Script) (t : Trace) (used : t.signed ≡ signed_of (maker_by script t) t.journal) where
+is_calm : (asked e : Bool) → (asked ≡ true → e ≡ false) → not (asked && e) ≡ true
+is_calm true e h = is_not e (h refl)
+is_calm false e h = refl
+
+-- no event would make an entry: Timeout is one of them where it is asked about
+pub record AreIdle (timeouts : Bool) (m : Maker) (t : Trace) : Type 0 where
+  pub batch : IsIdle Mover.Batch m t
+  pub nudge : IsIdle Mover.Nudge m t
+  pub execute : IsIdle Mover.Execute m t
+  pub checkpoint : IsIdle Mover.Checkpoint m t
+  pub emit : IsIdle Mover.Emit m t
+  pub timeout : timeouts ≡ true → IsIdle Mover.Timeout m t
+
+module _ (script : Script) (timeouts : Bool) (t : Trace) (used : t.signed ≡ signed_of (maker_by script t) t.journal) where
   abbrev would : Event → Bool
   would e = machine.moves (maker_by script t).roster t.id (state (maker_by script t) t.journal) e
 
   abbrev blocked : ℕ → Bool
   blocked n = needs_leaf t.id (first (state (maker_by script t) t.journal)) && nat_le (maker_by script t).leaves n
 
-  idle_from : is_still script t ≡ true → AreIdle (maker_by script t) t
+  idle_from : is_still script timeouts t ≡ true → AreIdle timeouts (maker_by script t) t
   unfolding moves is_blocked state
   idle_from h =
-      let batch = and_left _ _ h in
       let after_batch = and_right _ _ h in
-      let nudge = and_left _ _ after_batch in
       let after_nudge = and_right _ _ after_batch in
-      let execute = and_left _ _ after_nudge in
       let after_execute = and_right _ _ after_nudge in
-      let checkpoint = and_left _ _ after_execute in
-      let emit = and_right _ _ after_execute in (
-        not_true (would Event.Batch) batch,
-        not_true (would Event.Nudge) nudge,
-        not_true (would Event.Execute) execute,
-        not_true (would Event.Checkpoint) checkpoint,
-        behind (would (Event.Emit [])) (blocked (length (signed_of (maker_by script t) t.journal)))
-            (ap (λ (l : List (List ℕ)). not (would (Event.Emit [])) || blocked (length l)) (sym used) ∙ emit),
-      )
+      let after_checkpoint = and_right _ _ after_execute in
+      record {
+        batch = not_true (would Event.Batch) (and_left _ _ h);
+        nudge = not_true (would Event.Nudge) (and_left _ _ after_batch);
+        execute = not_true (would Event.Execute) (and_left _ _ after_nudge);
+        checkpoint = not_true (would Event.Checkpoint) (and_left _ _ after_execute);
+        emit =
+            behind (would (Event.Emit [])) (blocked (length (signed_of (maker_by script t) t.journal)))
+            (ap (λ (l : List (List ℕ)). not (would (Event.Emit [])) || blocked (length l)) (sym used) ∙ and_left _ _ after_checkpoint);
+        timeout = where_asked timeouts (would Event.Timeout) (and_right _ _ after_checkpoint);
+      }
 
-  still_from : AreIdle (maker_by script t) t → is_still script t ≡ true
+  still_from : AreIdle timeouts (maker_by script t) t → is_still script timeouts t ≡ true
   unfolding moves is_blocked state
   still_from h =
-      and_both _ _ (is_not (would Event.Batch) h.0)
-      (and_both _ _ (is_not (would Event.Nudge) h.1)
-      (and_both _ _ (is_not (would Event.Execute) h.2)
-      (and_both _ _ (is_not (would Event.Checkpoint) h.3)
+      and_both _ _ (is_not (would Event.Batch) h.batch)
+      (and_both _ _ (is_not (would Event.Nudge) h.nudge)
+      (and_both _ _ (is_not (would Event.Execute) h.execute)
+      (and_both _ _ (is_not (would Event.Checkpoint) h.checkpoint)
+      (and_both _ _
       (ap (λ (l : List (List ℕ)). not (would (Event.Emit [])) || blocked (length l)) used
-      ∙ is_behind (would (Event.Emit [])) (blocked (length (signed_of (maker_by script t) t.journal))) h.4))))
+      ∙ is_behind (would (Event.Emit [])) (blocked (length (signed_of (maker_by script t) t.journal))) h.emit)
+      (is_calm timeouts (would Event.Timeout) h.timeout)))))
+
+-- ---- what waits to be sent
+
+-- where nothing waits, nothing is sent
+none_sent : (me : ReplicaId) (s : states.Replica) (outbox : List Item) → length outbox ≡ 0 → makes_entry (emit_step me s [] outbox).answer ≡ false
+none_sent me s [] h = refl
+none_sent me s (x ∷ rest) h = absurd cc
+
+and_false : (a b : Bool) → b ≡ false → (a && b) ≡ false
+and_false true b h = h
+and_false false b h = refl
+
+emit_idle : (m : Maker) (journal : List Entry) → (waits m journal ≡ 0) ⊎ (is_blocked m journal ≡ true) → moves m journal Mover.Emit ≡ false
+unfolding moves waits
+emit_idle m journal (inl none) =
+    ap (λ b. b && not (is_blocked m journal)) (none_sent m.id (state m journal) (state m journal).outbox none)
+emit_idle m journal (inr blocked) =
+    and_false (machine.moves m.roster m.id (state m journal) (Event.Emit [])) (not (is_blocked m journal)) (ap not blocked)
+
+sent_is : (m : Maker) (t : Trace) → Kept m t → IsIdle Mover.Emit m t → IsSent m t
+sent_is m t k h = elim (sent_or_blocked m t.journal h) [ inl e ↦ inl (k.unsent ∙ e) | inr b ↦ inr b ]
+
+pub sent_idle : (m : Maker) (t : Trace) → Kept m t → IsSent m t → IsIdle Mover.Emit m t
+sent_idle m t k (inl none) = emit_idle m t.journal (inl (sym k.unsent ∙ none))
+sent_idle m t k (inr blocked) = emit_idle m t.journal (inr blocked)
 
 -- ---- in the words of runs
 
-idle_is : (m : Maker) (t : Trace) → AreIdle m t → IsIdle m t
-idle_is m t h Mover.Batch = h.0
-idle_is m t h Mover.Nudge = h.1
-idle_is m t h Mover.Emit = h.4
-idle_is m t h Mover.Execute = h.2
-idle_is m t h Mover.Checkpoint = h.3
-
-idle_are : (m : Maker) (t : Trace) → IsIdle m t → AreIdle m t
-idle_are m t h = (h Mover.Batch, h Mover.Nudge, h Mover.Execute, h Mover.Checkpoint, h Mover.Emit)
-
-sent_is : (m : Maker) (t : Trace) → Kept m t → IsIdle m t → IsSent m t
-sent_is m t k h = elim (sent_or_blocked m t.journal (h Mover.Emit)) [ inl e ↦ inl (k.unsent ∙ e) | inr b ↦ inr b ]
-
 -- nothing waits to be sent where nothing may be
-abbrev IsQuiet : Maker → Trace → Type 0
-IsQuiet m t = IsSent m t × IsIdle m t
+pub record IsStill (timeouts : Bool) (m : Maker) (t : Trace) : Type 0 where
+  pub sent : IsSent m t
+  pub idle : AreIdle timeouts m t
 
-quiet_from : (script : Script) (m : Maker) (t : Trace) → IsOf script m → Kept m t → is_still script t ≡ true → IsQuiet m t
-quiet_from script m t o k h =
+still_is_idle : (script : Script) (timeouts : Bool) (m : Maker) (t : Trace) → IsOf script m → Kept m t → is_still script timeouts t ≡ true
+    → IsStill timeouts m t
+still_is_idle script timeouts m t o k h =
     let named = named_by script m t o k in
     let used : t.signed ≡ signed_of (maker_by script t) t.journal = k.signed ∙ ap (λ (x : Maker). signed_of x t.journal) named in
-    let idle : IsIdle m t = subst (λ (x : Maker). IsIdle x t) (sym named) (idle_is (maker_by script t) t (idle_from script t used h)) in
-    (sent_is m t k idle, idle)
+    let idle : AreIdle timeouts m t = subst (λ (x : Maker). AreIdle timeouts x t) (sym named) (idle_from script timeouts t used h) in
+    record { sent = sent_is m t k idle.emit; idle = idle }
 
-still_where : (script : Script) (m : Maker) (t : Trace) → IsOf script m → Kept m t → IsIdle m t → is_still script t ≡ true
-still_where script m t o k h =
+idle_is_still : (script : Script) (timeouts : Bool) (m : Maker) (t : Trace) → IsOf script m → Kept m t → AreIdle timeouts m t
+    → is_still script timeouts t ≡ true
+idle_is_still script timeouts m t o k h =
     let named = named_by script m t o k in
     let used : t.signed ≡ signed_of (maker_by script t) t.journal = k.signed ∙ ap (λ (x : Maker). signed_of x t.journal) named in
-    still_from script t used (idle_are (maker_by script t) t (subst (λ (x : Maker). IsIdle x t) named h))
+    still_from script timeouts t used (subst (λ (x : Maker). AreIdle timeouts x t) named h)
 
-pub all_quiet : (script : Script) (makers : List Maker) (traces : List Trace) → AreOf script makers → AreEach Kept makers traces
-    → list_all (is_still script) traces ≡ true → AreEach IsSent makers traces × AreEach IsIdle makers traces
-all_quiet script [] [] o k h = (tt, tt)
-all_quiet script [] (t ∷ traces) o k h = absurd k
-all_quiet script (m ∷ makers) [] o k h = absurd k
-all_quiet script (m ∷ makers) (t ∷ traces) o k h =
-    let here = quiet_from script m t (o m (inl refl)) k.0 (and_left (is_still script t) (list_all (is_still script) traces) h) in
-    let rest = all_quiet script makers traces (λ n i. o n (inr i)) k.1 (and_right (is_still script t) (list_all (is_still script) traces) h) in
-    ((here.0, rest.0), (here.1, rest.1))
+pub all_idle : (script : Script) (timeouts : Bool) (makers : List Maker) (traces : List Trace) → AreOf script makers → AreEach Kept makers traces
+    → list_all (is_still script timeouts) traces ≡ true → AreEach (IsStill timeouts) makers traces
+all_idle script timeouts [] [] o k h = tt
+all_idle script timeouts [] (t ∷ traces) o k h = absurd k
+all_idle script timeouts (m ∷ makers) [] o k h = absurd k
+all_idle script timeouts (m ∷ makers) (t ∷ traces) o k h = (
+  still_is_idle script timeouts m t (o m (inl refl)) k.0 (and_left (is_still script timeouts t) (list_all (is_still script timeouts) traces) h),
+  all_idle script timeouts makers traces (λ n i. o n (inr i)) k.1
+      (and_right (is_still script timeouts t) (list_all (is_still script timeouts) traces) h),
+)
 
-pub all_still : (script : Script) (makers : List Maker) (traces : List Trace) → AreOf script makers → AreEach Kept makers traces
-    → AreEach IsIdle makers traces → list_all (is_still script) traces ≡ true
-all_still script [] [] o k h = refl
-all_still script [] (t ∷ traces) o k h = absurd k
-all_still script (m ∷ makers) [] o k h = absurd k
-all_still script (m ∷ makers) (t ∷ traces) o k h =
-    and_both (is_still script t) (list_all (is_still script) traces) (still_where script m t (o m (inl refl)) k.0 h.0)
-    (all_still script makers traces (λ n i. o n (inr i)) k.1 h.1)
+pub all_still : (script : Script) (timeouts : Bool) (makers : List Maker) (traces : List Trace) → AreOf script makers → AreEach Kept makers traces
+    → AreEach (AreIdle timeouts) makers traces → list_all (is_still script timeouts) traces ≡ true
+all_still script timeouts [] [] o k h = refl
+all_still script timeouts [] (t ∷ traces) o k h = absurd k
+all_still script timeouts (m ∷ makers) [] o k h = absurd k
+all_still script timeouts (m ∷ makers) (t ∷ traces) o k h =
+    and_both (is_still script timeouts t) (list_all (is_still script timeouts) traces) (idle_is_still script timeouts m t (o m (inl refl)) k.0 h.0)
+    (all_still script timeouts makers traces (λ n i. o n (inr i)) k.1 h.1)

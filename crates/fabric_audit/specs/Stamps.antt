@@ -1,5 +1,5 @@
 -- Which requests took effect, told by the last effective stamp of each client.
-use Rattle.std.specs.Prelude.{ℕ, nat_le, Bool, List, slice_index, slice_set, replicate}
+use Rattle.std.specs.Prelude.{ℕ, nat_le, Bool, true, cond, List, slice_index, slice_set, replicate}
 use Rattle.std.specs.List.{fold, list_all}
 use Rattle.fab_base.specs.Table.{by_stamp}
 use Rattle.fab_base.specs.declared.requests.Request.{Request}
@@ -9,6 +9,7 @@ use Rattle.fault_script.specs.declared.scripts.Wish.{Wish}
 use Rattle.run_words.specs.declared.logs.Trace.{Trace}
 use Rattle.replica_log.specs.Replayed.{state_after}
 use Rattle.run_worlds.specs.Scripts.{roster_of}
+use Rattle.run_worlds.specs.Worlds.{is_correct_one}
 
 -- how many numbers a client may have
 abbrev pub NUMBERS : ℕ
@@ -36,9 +37,9 @@ is_served last wish = nat_le wish.stamp (slice_index last wish.client.number)
 abbrev pub stamps_of : Script → Trace → List ℕ
 stamps_of script t = last_stamps (state_after (roster_of script) t).rounds.blocks
 
--- the request took effect in that ledger
+-- the request took effect in that ledger, where the replica is correct
 abbrev pub is_served_in : Script → Wish → Trace → Bool
-is_served_in script wish t = is_served (stamps_of script t) wish
+is_served_in script wish t = cond (is_correct_one t) (is_served (stamps_of script t) wish) true
 
 -- in that of each of these
 abbrev pub served_by : Script → List Trace → Wish → Bool

@@ -3,11 +3,13 @@ ghost use Rattle.std.specs.Prelude.{◌≡◌, [], IfOk, IsTrue};
 ghost use Rattle.std.specs.List.{list_all};
 ghost use Rattle.fab_rules.specs.Format.{fits};
 ghost use Rattle.run_worlds.specs.Sights.{after_message, after_entries, after_traces, first_evidence};
+ghost use Rattle.run_worlds.specs.Worlds.{correct_of};
 ghost use Rattle.run_worlds.specs.Endings.{IsOfLogs};
 ghost use Rattle.fabric_audit.specs.Journals.{entry_fits, journal_fits, after_entry};
 ghost use Rattle.fabric_audit.specs.Meeting.{Finds, Meets};
 
 use crate::asking::asked_contents;
+use crate::correct::is_correct;
 use crate::makers::Makers;
 use crate::meetings::Meetings;
 use crate::stops::Stop;
@@ -69,17 +71,19 @@ fn audit_journal<'a>(
     Ok(())
 }
 
-/// Goes through the journals of the replicas, in their order.
+/// Goes through the journals of the correct replicas, in their order.
 fn audit_journals<'a>(
     makers: &Makers,
     meetings: &mut Meetings<'a>,
     traces: &'a [Trace],
 ) -> Result<(), Stop>
     requires { IsTrue (list_all journal_fits traces.now) }
-    ensures { Meets meetings.old result meetings.new (λ met. after_traces makers.now met traces.now) }
+    ensures { Meets meetings.old result meetings.new (λ met. after_traces makers.now met (correct_of traces.now)) }
 {
     for trace in traces {
-        audit_journal(makers, meetings, trace.id, trace.journal.as_slice())?;
+        if is_correct(trace) {
+            audit_journal(makers, meetings, trace.id, trace.journal.as_slice())?;
+        }
     }
     Ok(())
 }
@@ -106,10 +110,10 @@ fn evidence(alloc: Global, makers: &Makers) -> Result<Option<Evidence>, NoMemory
     }
 }
 
-/// The first evidence against the premises of agreement, where there is any: a statement that a replica heard under the name of a signer
-/// who never made it, or two batches that share a digest. The replicas are gone through by id, what each heard in its order, and of each
-/// message first its parts, then its batches. Any transcript that logs may hold is judged, lawful or not. It fails only where memory is
-/// refused.
+/// The first evidence against the premises of agreement, where there is any: a statement that a correct replica heard under the name of a
+/// correct signer who never made it, or two batches that share a digest. The correct replicas are gone through by id, what each heard in
+/// its order, and of each message first its parts, then its batches. Any transcript that logs may hold is judged, lawful or not. It fails
+/// only where memory is refused.
 pub fn audit(alloc: Global, transcript: &Transcript) -> Result<Option<Evidence>, NoMemory>
     requires { IsOfLogs transcript.now }
     ensures { IfOk result (λ found. found ≡ first_evidence transcript.now) }

@@ -11,6 +11,7 @@ ghost use Rattle.run_worlds.specs.Endings.{IsOfLogs, first_missing};
 ghost use Rattle.fabric_audit.specs.Stamps.{NUMBERS, counted, counted_all, last_stamps, stamps_of, is_served, served_by};
 
 use crate::cores::core_of;
+use crate::correct::is_correct;
 use fab_base::{NoMemory, Request};
 use fab_rules::Block;
 use fault_script::{Script, Wish};
@@ -77,7 +78,7 @@ fn served(stamps: &[u32], requests: &[Wish]) -> usize
     requests.len()
 }
 
-/// How many requests of the script, from the first on, took effect in the ledger of each of these replicas.
+/// How many requests of the script, from the first on, took effect in the ledger of each correct one of these replicas.
 fn served_by_all(alloc: Global, script: &Script, traces: &[Trace]) -> Result<usize, NoMemory>
     requires limits { keeps_limits script.now ≡ true }
     requires replayable { All (IsReplayable (roster_of script.now)) traces.now }
@@ -86,14 +87,16 @@ fn served_by_all(alloc: Global, script: &Script, traces: &[Trace]) -> Result<usi
     let requests = script.requests.as_slice();
     let mut count = requests.len();
     for trace in traces {
-        let stamps = stamps_of(alloc, script, trace)?;
-        count = served(&stamps, &requests[..count]);
+        if is_correct(trace) {
+            let stamps = stamps_of(alloc, script, trace)?;
+            count = served(&stamps, &requests[..count]);
+        }
     }
     Ok(count)
 }
 
-/// The first request of the script that didn't take effect in the ledger of each replica, `None` exactly where each did. It fails only
-/// where memory is refused.
+/// The first request of the script that didn't take effect in the ledger of each correct replica, `None` exactly where each did. It fails
+/// only where memory is refused.
 pub(crate) fn first_missing(
     alloc: Global,
     transcript: &Transcript,

@@ -29,8 +29,8 @@ fn end_without_evidence(alloc: Global, transcript: &Transcript) -> Result<End, N
 }
 
 /// How a run ended: the first that applies of `Broken` (the audit finds evidence), `Done` (each request of the script took effect in the
-/// ledger of each replica), `Stalled` (nothing moves any more; with the first request without effect in some ledger) and `Spent` (the run
-/// was cut off; with the number of entries). It fails only where memory is refused.
+/// ledger of each correct replica), `Stalled` (nothing moves any more; with the first request without effect in some correct replica's
+/// ledger) and `Spent` (the run was cut off; with the number of entries). It fails only where memory is refused.
 pub fn end_of(alloc: Global, transcript: &Transcript) -> Result<End, NoMemory>
     requires { IsRunOf transcript.now.script transcript.now }
     ensures { IfOk result (λ end. IsEnd transcript.now end) }

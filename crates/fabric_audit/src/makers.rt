@@ -24,7 +24,7 @@ pub(crate) enum Unmade {
     NoMemory,
 }
 
-/// Who made which statements in a run: what the replicas signed, and what the script has the clients ask for. It is also the judge,
+/// Who made which statements in a run: what the correct replicas signed, and what the script has the clients ask for. It is also the judge,
 /// of each part of a message, whether its signer made it. A contract sees the run.
 #[derive(Drop)]
 pub(crate) struct Makers<'a> {
@@ -81,7 +81,8 @@ impl<'a> Makers<'a> {
         self.asked.has(content)
     }
 
-    /// Whether the signer of a part with this content made it: a replica signed it, or the script has a client ask for it.
+    /// Whether the signer of a part with this content made it: a replica signed it, or the script has a client ask for it. Of a faulty
+    /// replica nothing is asked.
     fn has_made(&self, signer: Who, content: &[u8]) -> bool
         requires { IsOfPart signer content.now }
         ensures { result ≡ is_made_by self.now (Some signer) content.now }

@@ -1,7 +1,8 @@
 //! Whether anything still moves.
 //!
-//! Nothing moves where each replica has heard or refused whatever was put to it, and no event would make an entry at any. A replica never
-//! takes more copies than were put to it, so all are taken where all replicas together took as many as were put.
+//! Nothing moves where each replica has heard or refused whatever was put to it, no event but a Timeout would make an entry at any, and no
+//! patience is left; and where fewer timeouts came to something than patience was used, no Timeout would make an entry either. A replica
+//! never takes more copies than were put to it, so all are taken where all replicas together took as many as were put.
 ghost use Rattle.std.specs.Prelude.{◌≡◌, ◌==◌, ◌&&◌, ◌↔◌, true, nat_le, length, IfOk, IsTrue};
 ghost use Rattle.std.specs.List.{All, list_all};
 ghost use Rattle.fab_base.specs.declared.ids.ReplicaId.{ReplicaId};
@@ -15,11 +16,11 @@ ghost use Rattle.replica_log.specs.Replayed.{IsReplayable};
 ghost use Rattle.script_keys.specs.Keys.{leaves_of};
 ghost use Rattle.run_worlds.specs.Scripts.{roster_of};
 ghost use Rattle.run_worlds.specs.Endings.{IsRunOf, IsSettled};
-ghost use Rattle.fabric_audit.specs.Counts.{all_taken, all_put};
+ghost use Rattle.fabric_audit.specs.Counts.{all_taken, all_put, are_tried};
 ghost use Rattle.fabric_audit.specs.Still.{is_still_at, is_still};
 
 use crate::cores::core_of;
-use crate::counting::{copies, plus, sent_by_all, taken};
+use crate::counting::{copies, plus, sent_by_all, taken, timed, timed_out_at_all};
 use bft_msg::signer;
 use fab_base::{Message, NoMemory, ReplicaId, Who};
 use fault_script::Script;
@@ -58,38 +59,46 @@ fn needs_leaf(replica: ReplicaId, core: &Core) -> bool
     }
 }
 
-/// Whether no event would make an entry at a replica with so many leaves, of which it used so many.
-fn is_still_at(replica: ReplicaId, core: &Core, leaves: u64, used: u64) -> bool
-    ensures { result ≡ is_still_at replica core.now leaves used }
+/// Whether no event would make an entry at a replica with so many leaves, of which it used so many. Timeout is one of them where it is
+/// asked about.
+fn is_still_at(replica: ReplicaId, core: &Core, leaves: u64, used: u64, timeouts: bool) -> bool
+    ensures { result ≡ is_still_at replica core.now leaves used timeouts }
 {
     !core.moves(Mover::Batch)
         && !core.moves(Mover::Nudge)
         && !core.moves(Mover::Execute)
         && !core.moves(Mover::Checkpoint)
         && (!core.moves(Mover::Emit) || (needs_leaf(replica, core) && leaves <= used))
+        && !(timeouts && core.moves(Mover::Timeout))
 }
 
-/// Whether no event would make an entry at the replica that left this trace.
-fn is_still(alloc: Global, script: &Script, trace: &Trace) -> Result<bool, NoMemory>
+/// Whether no event would make an entry at the replica that left this trace. Timeout is one of them where it is asked about.
+fn is_still(alloc: Global, script: &Script, trace: &Trace, timeouts: bool) -> Result<bool, NoMemory>
     requires limits { keeps_limits script.now ≡ true }
     requires replayable { IsReplayable (roster_of script.now) trace.now }
-    ensures { IfOk result (λ still. still ≡ is_still script.now trace.now) }
+    ensures { IfOk result (λ still. still ≡ is_still script.now timeouts trace.now) }
 {
     let core = core_of(alloc, script, trace)?;
     let leaves = leaves(script) as u64;
-    let still = is_still_at(trace.id, &core, leaves, trace.signed.len() as u64);
+    let used = trace.signed.len() as u64;
+    let still = is_still_at(trace.id, &core, leaves, used, timeouts);
     drop(core);
     Ok(still)
 }
 
-/// Whether no event would make an entry at any of the replicas.
-fn are_still(alloc: Global, script: &Script, traces: &[Trace]) -> Result<bool, NoMemory>
+/// Whether no event would make an entry at any of the replicas. Timeout is one of them where it is asked about.
+fn are_still(
+    alloc: Global,
+    script: &Script,
+    traces: &[Trace],
+    timeouts: bool,
+) -> Result<bool, NoMemory>
     requires limits { keeps_limits script.now ≡ true }
     requires replayable { All (IsReplayable (roster_of script.now)) traces.now }
-    ensures { IfOk result (λ still. still ≡ list_all (is_still script.now) traces.now) }
+    ensures { IfOk result (λ still. still ≡ list_all (is_still script.now timeouts) traces.now) }
 {
     for trace in traces {
-        if !is_still(alloc, script, trace)? {
+        if !is_still(alloc, script, trace, timeouts)? {
             return Ok(false);
         }
     }
@@ -107,13 +116,27 @@ fn all_taken(alloc: Global, script: &Script, traces: &[Trace]) -> Result<bool, N
     Ok(taken(traces)? == put)
 }
 
-/// Whether nothing moves any more: all that was put is heard or refused, and no event would make an entry. It fails only where memory is
-/// refused.
+/// Whether as many timeouts came to something as quiet moments ended in them, or more.
+fn are_tried(transcript: &Transcript) -> Result<bool, NoMemory>
+    ensures { IfOk result (λ tried. tried ≡ are_tried transcript.now) }
+{
+    let used = timed(transcript.moments.as_slice()) as u64;
+    Ok(used <= timed_out_at_all(transcript.traces.as_slice())?)
+}
+
+/// Whether nothing moves any more: all that was put is heard or refused, no event would make an entry, and no patience is left. Timeouts
+/// are asked about only where fewer of them came to something than patience was used. It fails only where memory is refused.
 pub(crate) fn is_settled(alloc: Global, transcript: &Transcript) -> Result<bool, NoMemory>
     requires { IsRunOf transcript.now.script transcript.now }
     ensures { IfOk result (λ settled. IsTrue settled ↔ IsSettled transcript.now) }
 {
+    if transcript.timeouts_left > 0 {
+        return Ok(false);
+    }
     let script = &transcript.script;
     let traces = transcript.traces.as_slice();
-    Ok(all_taken(alloc, script, traces)? && are_still(alloc, script, traces)?)
+    Ok(
+        all_taken(alloc, script, traces)?
+            && are_still(alloc, script, traces, !are_tried(transcript)?)?,
+    )
 }

@@ -1,20 +1,22 @@
-//! What each replica signed.
+//! What each correct replica signed.
 ghost use Rattle.std.specs.Prelude.{◌≡◌, ℕ, List, IfOk, OnOk, if◌then◌else◌};
 ghost use Rattle.std.specs.List.{list_any};
 ghost use Rattle.std.specs.Str.{bytes_eq};
 ghost use Rattle.fab_base.specs.declared.ids.ReplicaId.{ReplicaId};
 ghost use Rattle.run_words.specs.Keyed.{is_same};
 ghost use Rattle.run_worlds.specs.Sights.{is_signed_by};
+ghost use Rattle.run_worlds.specs.Worlds.{correct_of};
 ghost use Rattle.fabric_audit.specs.Makers.{has_signed};
 
 use crate::content_sets::ContentSet;
+use crate::correct::is_correct;
 use fab_base::{NoMemory, ReplicaId};
 use run_words::Trace;
 use std::alloc::Global;
 use std::collections::BTreeMap;
 use std::marker::Model;
 
-/// The contents that each replica of a run signed, found by the replica. A contract sees the pairs of replicas and sets.
+/// The contents that each correct replica of a run signed, found by the replica. A contract sees the pairs of replicas and sets.
 #[derive(Drop)]
 pub(crate) struct Signers<'a> {
     sets: BTreeMap<ReplicaId, ContentSet<'a>>,
@@ -30,9 +32,9 @@ impl<'a> Model for Signers<'a> {
 }
 
 impl<'a> Signers<'a> {
-    /// What the replicas signed that left these traces. It fails only where memory is refused.
+    /// What the correct ones of the replicas signed that left these traces. It fails only where memory is refused.
     pub(crate) fn of(alloc: Global, traces: &'a [Trace]) -> Result<Signers<'a>, NoMemory>
-        ensures { IfOk result (λ signers. (i : ReplicaId) (x : List ℕ) → has_signed signers i x ≡ is_signed_by traces.now i x) }
+        ensures { IfOk result (λ signers. (i : ReplicaId) (x : List ℕ) → has_signed signers i x ≡ is_signed_by (correct_of traces.now) i x) }
     {
         let mut signers = Signers {
             sets: BTreeMap::new(alloc),
@@ -41,7 +43,9 @@ impl<'a> Signers<'a> {
         while left > 0 {
             left -= 1;
             let trace = &traces[left];
-            signers.put(trace.id, ContentSet::of(alloc, trace.signed.as_slice())?)?;
+            if is_correct(trace) {
+                signers.put(trace.id, ContentSet::of(alloc, trace.signed.as_slice())?)?;
+            }
         }
         Ok(signers)
     }
@@ -55,7 +59,7 @@ impl<'a> Signers<'a> {
         Ok(())
     }
 
-    /// Whether a replica signed a content. Of one that takes no part nothing is asked.
+    /// Whether a replica signed a content. Of one that takes no part or is faulty nothing is asked.
     pub(crate) fn has_signed(&self, signer: ReplicaId, content: &[u8]) -> bool
         ensures { result ≡ has_signed self.now signer content.now }
     {

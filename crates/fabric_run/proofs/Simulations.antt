@@ -12,7 +12,7 @@ use Rattle.run_worlds.specs.Endings.{IsRunOf, IsEnd}
 use Rattle.run_worlds.proofs.RunLogs.{logs_of}
 use Rattle.audit_laws.proofs.Evidence.{safe_run}
 use Rattle.audit_laws.proofs.Witnesses.{witness}
-use Rattle.run_laws.proofs.Unforged.{no_signer_named}
+use Rattle.run_laws.proofs.Unforged.{no_signer_named, bears}
 use Rattle.plain_laws.proofs.Ends.{stalled, cut_off}
 use Rattle.plain_laws.proofs.ReadScripts.{read_one}
 use Rattle.plain_laws.specs.Plain.{IsClash}
@@ -69,7 +69,7 @@ wrote_clean old new t exit w =
 
 -- without evidence the run is safe
 safe_of : (old new : Supply) (t : Transcript) → HasRun old new t → first_evidence t ≡ None → IsSafe (world_of t)
-safe_of old new t h clean = safe_run t (logs_of t (own_run h.0 t h.4)) clean
+safe_of old new t h clean = safe_run t (logs_of t (own_run h.0 t h.4)) (bears t.script) clean
 
 pub safe_from : (old new : Seen) (before t : Transcript) (exit : Exit) → Ends (SimMakes t) old new exit → KeepsRun old.source new.source before t exit → IsSafeAt t exit
 safe_from old new before t Done e h = safe_of old.source new.source t h (wrote_clean old new t Done e)

@@ -21,6 +21,7 @@ use Rattle.run_worlds.specs.Scripts.{roster_of, maker_of, makers_of}
 use Rattle.script_keys.specs.Keys.{replicas_of}
 use Rattle.script_keys.specs.Rings.{ring_of}
 use Rattle.script_sim.specs.Schedules.{log_of, logs_of}
+use Rattle.script_sim.proofs.Ready.{made_as}
 use Rattle.forged_example.specs.Standing.{maker_in, IsStanding, AreStanding, IsForLog}
 
 -- ---- before anything was heard
@@ -28,7 +29,7 @@ use Rattle.forged_example.specs.Standing.{maker_in, IsStanding, AreStanding, IsF
 -- a log that has done nothing stands
 fresh_from : (script : Script) (ids : List ReplicaId) → AreStanding (map (maker_of script) ids) (map (log_of script) ids)
 fresh_from script [] = tt
-fresh_from script (i ∷ ids) = (record { made = refl; is_open = refl; replays = tt; sound = tt }, fresh_from script ids)
+fresh_from script (i ∷ ids) = (record { made = made_as script i; is_open = refl; replays = tt; sound = tt }, fresh_from script ids)
 
 pub fresh_stand : (script : Script) (logs : List (Log Leaves)) → logs ≡ logs_of script → AreStanding (makers_of script) logs
 fresh_stand script logs e = subst (λ (l : List (Log Leaves)). AreStanding (makers_of script) l) (sym e) (fresh_from script (replicas_of script))

@@ -11,6 +11,7 @@ use crate::leaving::leave_all;
 use crate::starting::{Start, fresh_start};
 use crate::stops::Stop;
 use bft_verify::verify;
+use fab_base::Rows;
 use fault_script::Script;
 use run_words::{Traces, Transcript};
 use std::alloc::Global;
@@ -49,6 +50,7 @@ pub(crate) fn forged_transcript(alloc: Global, script: Script) -> Result<Transcr
     Ok(Transcript {
         script,
         traces,
+        moments: Rows::new(alloc),
         timeouts_left: 0,
     })
 }

@@ -1,8 +1,6 @@
 -- After a proposal or a vote was counted: what newly holds of its slot has its consequences.
-use Rattle.std.proofs.Common.{◌≡◌, ℕ, ◌≤◌, take, true, List, [], ◌∷◌, ◌++◌, length, Option, Some, None, ◌⊎◌, inl, inr, refl, sym, ap, subst, ◌∙◌, arith}
-use Rattle.std.specs.Option.{option_and_then}
+use Rattle.std.proofs.Common.{◌≡◌, ℕ, ◌≤◌, true, List, [], ◌∷◌, ◌++◌, Option, Some, None, ◌⊎◌, inl, inr, refl, sym, ap, subst, ◌∙◌, arith}
 use Rattle.fab_base.specs.Limits.{Roster}
-use Rattle.fab_base.specs.Quorums.{quorum_size}
 use Rattle.fab_base.specs.declared.limits.TheConstants.{GREATEST_NUMBER}
 use Rattle.fab_base.specs.declared.ids.ReplicaId.{ReplicaId}
 use Rattle.fab_base.specs.declared.ids.Hash32.{Hash32}
@@ -12,25 +10,21 @@ use Rattle.fab_base.specs.declared.messages.Message.{Message}
 use Rattle.fab_rules.specs.Lists.{In}
 use Rattle.fab_rules.specs.Diary.{Entry, Heard, Said}
 use Rattle.fab_rules.specs.Statements.{signer_of, unsigned}
-use Rattle.fab_rules.proofs.Lists.{of_flat_map}
 use Rattle.fab_rules.proofs.Saying.{heard_before}
-use Rattle.vote_certs.specs.Counting.{value_of}
-use Rattle.pbft_slots.specs.declared.slot.Slot.{Slot}
 use Rattle.pbft_slots.specs.declared.slot.Proposal.{Proposal}
-use Rattle.pbft_slots.specs.Ballots.{Counted, senders_for, kept_of, kept_from}
-use Rattle.pbft_slots.specs.Window.{Window, slot_at, votes_in, proposal_at, prepared_at, committed_at}
+use Rattle.pbft_slots.specs.Window.{Window, proposal_at, prepared_at, committed_at}
 use Rattle.fab_machine.specs.State.{Local}
 use Rattle.fab_machine.specs.Items.{vote_of, is_own, to_cluster}
 use Rattle.fab_machine.specs.Voting.{commit_certificate, newly, keep_prepared, commit_outs, certified_outs, newly_prepared, newly_committed, after_count, outs_after}
-use Rattle.fab_machine.specs.Rounds.{slot_of, round_of}
+use Rattle.fab_machine.specs.Rounds.{round_of}
 use Rattle.fab_machine.specs.LocalState.{IsLocalState}
 use Rattle.fab_machine.specs.Relation.{after_puts}
 use Rattle.fab_machine.specs.declared.outs.Out.{Out}
 use Rattle.fab_machine.proofs.Members.{IsMember}
-use Rattle.fab_machine.proofs.Certificates.{certificate_formed, certificate_may}
+use Rattle.fab_machine.proofs.Certificates.{certificate_formed}
 use Rattle.fab_machine.proofs.Made.{is_newly}
 use Rattle.fab_machine.proofs.Telling.{own, says_own}
-use Rattle.heed_laws.specs.Heeding.{IsHeeded, IsFormed, AreProposed, AllMarked, IsCalm, AreHeeded, formed_by, IsOutgoing, IsAskedFor}
+use Rattle.heed_laws.specs.Heeding.{IsPlainMessage, IsHeeded, IsFormed, AreProposed, AllMarked, IsCalm, AreHeeded, formed_by, IsOutgoing, IsAskedFor}
 use Rattle.heed_laws.proofs.Gaining.{IsGained}
 use Rattle.heed_laws.proofs.Alike.{alike_saying, proposed_alike, marked_alike}
 
@@ -40,6 +34,8 @@ use Rattle.heed_laws.proofs.Alike.{alike_saying, proposed_alike, marked_alike}
 -- of a slot
 abbrev pub IsFine : Roster → ReplicaId → List Entry → Out → Type 0
 IsFine r me full (Out.Put item) = IsOutgoing r me item × IsAskedFor full item.message
+IsFine r me full Out.Clear = ⊥
+IsFine r me full (Out.Entered base) = ⊥
 IsFine r me full (Out.Certified k) = (k.cluster ≡ me.cluster) × (1 ≤ round_of k)
 
 pub asked_more : (a b : List Entry) (m : Message) → ((x : Message) → In (Heard x) a → In (Heard x) b) → IsAskedFor a m → IsAskedFor b m
@@ -48,6 +44,8 @@ asked_more a b m f h = h
 
 pub fine_more : (r : Roster) (me : ReplicaId) (a b : List Entry) (o : Out) → ((x : Message) → In (Heard x) a → In (Heard x) b) → IsFine r me a o → IsFine r me b o
 fine_more r me a b (Out.Put item) f h = (h.0, asked_more a b item.message f h.1)
+fine_more r me a b Out.Clear f h = absurd h
+fine_more r me a b (Out.Entered base) f h = absurd h
 fine_more r me a b (Out.Certified k) f h = h
 
 pub record IsHeededOf (r : Roster) (me : ReplicaId) (l : Local) (outs : List Out) (formed : List CommitCert) (full : List Entry) (rest : List Message) : Type 0 where
@@ -65,10 +63,10 @@ fine_first r me full first rest f g o (inr h) = g o h
 
 -- a statement of its own is put to the cluster, and then the rest follows
 pub heeded_put : (r : Roster) (me : ReplicaId) (l : Local) (m : Message) (outs : List Out) (formed : List CommitCert) (full : List Entry) (rest : List Message)
-    → is_own me (signer_of m) ≡ true → IsAskedFor full m → IsHeededOf r me l outs formed (Said (unsigned m) ∷ full) rest → IsHeededOf r me l (to_cluster r me m ∷ outs) formed full rest
-heeded_put r me l m outs formed full rest mine asked t = record {
+    → is_own me (signer_of m) ≡ true → IsPlainMessage m → IsAskedFor full m → IsHeededOf r me l outs formed (Said (unsigned m) ∷ full) rest → IsHeededOf r me l (to_cluster r me m ∷ outs) formed full rest
+heeded_put r me l m outs formed full rest mine plain asked t = record {
   are = subst (λ f. AreHeeded r me l (formed_by formed outs) (after_puts me f outs) rest) (sym (says_own me m full mine)) t.are;
-  fine = fine_first r me full (to_cluster r me m) outs (record { own = mine; to = inl refl }, asked)
+  fine = fine_first r me full (to_cluster r me m) outs (record { own = mine; plain = plain; to = inl refl }, asked)
       (λ o h. fine_more r me (Said (unsigned m) ∷ full) full o (λ x k. heard_before full (unsigned m ∷ []) x k) (t.fine o h));
 }
 
@@ -199,7 +197,7 @@ counted r me l now slot formed full rest member low_enough from is ready = first
         (λ s d h. inr (ready.commits s d h))
         (λ d h. (let same : c ≡ d = (let both : Some c ≡ Some d = sym e ∙ h in cc) in
         inl (ap (λ view. Said (Message.Commit (vote_of me view slot c))) ready.calm.view_is ∙ ap (λ x. Said (Message.Commit (vote_of me 0 slot x))) same))) in
-        heeded_put r me (keep_prepared at slot (Some c)) m (certified_outs me at slot (newly_committed l now slot)) formed full rest (own me) tt
+        heeded_put r me (keep_prepared at slot (Some c)) m (certified_outs me at slot (newly_committed l now slot)) formed full rest (own me) tt tt
         (second (Some c) more (λ x h. ready.heeded x (alike.heard x h)) (λ s p h. inr (ready.prepares s p h)) commits
         (proposed_alike me l.slots.low l.next l.proposed full more alike.said ready.proposed) (marked_alike r me l.executed l.due full more alike.said ready.marked)
         (newly_committed l now slot) refl)

@@ -14,16 +14,14 @@ use Rattle.fab_base.proofs.Tests.{is_below}
 use Rattle.fab_rules.specs.Lists.{In, greatest}
 use Rattle.fab_rules.specs.Diary.{Entry, Heard, Said}
 use Rattle.fab_rules.specs.Rules.{KeepsRules}
-use Rattle.fab_rules.specs.Growth.{after_saying}
 use Rattle.fab_rules.proofs.Lists.{in_append_cases, in_filter}
 use Rattle.vote_certs.specs.Counting.{value_of}
 use Rattle.pbft_slots.specs.declared.slot.Slot.{Slot}
-use Rattle.pbft_slots.specs.Slots.{empty_slot, agreed_digest}
+use Rattle.pbft_slots.specs.Slots.{agreed_digest}
 use Rattle.pbft_slots.specs.Window.{Window, high, slot_at, moved_to}
 use Rattle.pbft_slots.proofs.Places.{slot_is_open, slot_kept}
 use Rattle.checkpoint_core.specs.Checkpoints.{Checkpoints, pruned}
 use Rattle.fab_machine.specs.State.{Due, Local}
-use Rattle.fab_machine.specs.Items.{statements_by}
 use Rattle.fab_machine.specs.Voting.{Told}
 use Rattle.fab_machine.specs.Hearing.{hear}
 use Rattle.fab_machine.specs.Checkpointing.{checkpoint_of, voted, stable_rounds, after_move, heard_again, move_to, checkpoint_by, checkpoint}
@@ -133,6 +131,8 @@ after_move_heeded r me l low formed full up done all = record {
 formed_by-append : (formed : List CommitCert) (a b : List Out) → formed_by formed (a ++ b) ≡ formed_by (formed_by formed a) b
 formed_by-append formed [] b = refl
 formed_by-append formed (Out.Put item ∷ rest) b = formed_by-append formed rest b
+formed_by-append formed (Out.Clear ∷ rest) b = formed_by-append formed rest b
+formed_by-append formed (Out.Entered base ∷ rest) b = formed_by-append formed rest b
 formed_by-append formed (Out.Certified k ∷ rest) b = formed_by-append (k ∷ formed) rest b
 
 -- what holds in between
@@ -173,7 +173,7 @@ voted_heeded r me l d rest formed full first all =
     let more = Said m ∷ full in
     let alike = alike_saying full (m ∷ []) in
     let now : Local = record l { due = rest } in
-    heeded_put r me now m [] formed full [] (own me) tt (told_none r me now formed more [] (record {
+    heeded_put r me now m [] formed full [] (own me) tt tt (told_none r me now formed more [] (record {
       calm = record { view_is = all.calm.view_is; calm = all.calm.calm; low_upto = all.calm.low_upto };
       heeded = λ x h. all.heeded x (alike.heard x h);
       voted = voted_alike me l.slots formed full more alike.said all.voted;

@@ -1,5 +1,5 @@
 -- A replica stays heedful by each event.
-use Rattle.std.proofs.Common.{◌≡◌, ℕ, zero, suc, false, if◌then◌else◌, ◌≤◌, ◌<◌, ◌+◌, ◌-◌, Bool, true, cond, List, [], ◌∷◌, ◌++◌, length, Option, Some, None, is_some, Result, Ok, Err, ◌⊎◌, inl, inr, refl, sym, ap, subst, ◌∙◌, arith}
+use Rattle.std.proofs.Common.{◌≡◌, ℕ, zero, suc, false, if◌then◌else◌, ◌≤◌, ◌<◌, ◌+◌, ◌-◌, Bool, true, cond, List, [], ◌∷◌, ◌++◌, length, append-nil, ◌&&◌, nat_lt, Option, Some, None, is_some, Result, Ok, Err, ◌⊎◌, inl, inr, refl, sym, ap, subst, ◌∙◌, arith}
 use Rattle.std.specs.Prelude.{slice_index, drop, replicate}
 use Rattle.std.specs.Bool.{IsTrue}
 use Rattle.std.specs.List.{slice_get}
@@ -18,7 +18,7 @@ use Rattle.fab_base.specs.declared.answers.Item.{Item}
 use Rattle.fab_base.specs.declared.answers.Take.{Take}
 use Rattle.fab_rules.specs.declared.blocks.Block.{Block}
 use Rattle.fab_rules.specs.Lists.{In}
-use Rattle.fab_rules.specs.Shape.{IsShaped}
+use Rattle.fab_rules.specs.Shape.{is_primary, IsShaped}
 use Rattle.fab_rules.specs.Diary.{Entry, Heard, Said, Did}
 use Rattle.fab_rules.specs.Ledger.{RunBlock, start_of, state_after_blocks}
 use Rattle.fab_rules.specs.Growth.{after_saying}
@@ -30,7 +30,7 @@ use Rattle.pbft_slots.specs.declared.slot.Slot.{Slot}
 use Rattle.pbft_slots.specs.declared.slot.Proposal.{Proposal}
 use Rattle.pbft_slots.specs.Slots.{empty_slot}
 use Rattle.pbft_slots.specs.Window.{Window, empty_window, place_in, slot_by, proposal_at}
-use Rattle.fab_machine.specs.State.{Rounds, Replica, fresh}
+use Rattle.fab_machine.specs.State.{Rounds, Replica, Stepped, fresh}
 use Rattle.fab_machine.specs.Items.{is_own, statements_by, statements_in}
 use Rattle.fab_rules.specs.Statements.{signer_of, unsigned}
 use Rattle.fab_machine.specs.Voting.{Told}
@@ -39,7 +39,9 @@ use Rattle.fab_machine.specs.Proposing.{propose}
 use Rattle.fab_machine.specs.Checkpointing.{checkpoint}
 use Rattle.fab_machine.specs.Serving.{stamps_after}
 use Rattle.fab_machine.specs.Rounds.{round_of, certificate_for, keep, knows_others, next_round, with_round, chain}
-use Rattle.fab_machine.specs.Step.{Event, after_out, after_outs, after_told, emit_step, note_item, own_block, after_noting, execute_step, step}
+use Rattle.fab_machine.specs.Step.{Event, hear_step, emit_step, note_item, own_block, after_noting, execute_step, step}
+use Rattle.fab_machine.specs.Joining.{after_out, after_outs, after_told}
+use Rattle.fab_machine.specs.Sharing.{with_certificate, share_item, all_recipients, shared}
 use Rattle.fab_machine.specs.Diaries.{MayCome, diary_sent, diary_did, diary_after, state_from, diary_from, state_of, diary_of}
 use Rattle.fab_machine.specs.Relation.{full_of, AreRelated, after_puts}
 use Rattle.fab_machine.specs.declared.outs.Out.{Out}
@@ -52,7 +54,7 @@ use Rattle.fab_machine.proofs.Stepping as machine
 use Rattle.fab_machine.proofs.Stepping.{full_put}
 use Rattle.fab_machine.proofs.Telling.{own}
 use Rattle.fab_machine.proofs.Steps.{step_keeps, starts_related}
-use Rattle.heed_laws.specs.Heeding.{IsHeeded, AreHeeded, formed_by, IsOutgoing, number_said, AreHeedful, IsHeedful, IsAskedFor}
+use Rattle.heed_laws.specs.Heeding.{IsHeeded, AreHeeded, formed_by, IsOutgoing, number_said, IsPlainMessage, IsPlain, AreHeedful, IsHeedful, IsAskedFor}
 use Rattle.heed_laws.proofs.Alike.{SaysAll, AreAlike, voted_alike, proposed_alike, marked_alike, heeded_alike}
 use Rattle.heed_laws.proofs.Counting.{IsFine, IsHeededOf, asked_more, fine_more}
 use Rattle.heed_laws.proofs.Hearing.{hear_heeded}
@@ -93,6 +95,21 @@ now_kept t k past = elim (cases_lt t.executed (round_of k)) [
 
 -- ---- what local ordering brings about
 
+-- with one cluster nothing is shared
+none_shared : (r : Roster) (me : ReplicaId) (view : ℕ) (k : CommitCert) → length r.sizes ≡ 1 → shared r me view k ≡ []
+none_shared r me view k one =
+    ap (λ n. cond (is_primary r me.cluster view me.index && nat_lt 1 n) (share_item k (all_recipients r me (round_of k)) ∷ []) []) one
+    ∙ none (is_primary r me.cluster view me.index)
+  where
+    none : (b : Bool) → cond (b && false) (share_item k (all_recipients r me (round_of k)) ∷ []) [] ≡ []
+    none true = refl
+    none false = refl
+
+certified_is : (r : Roster) (me : ReplicaId) (s : Replica) (k : CommitCert) → length r.sizes ≡ 1 → after_out r me s (Out.Certified k) ≡ with_certificate s k
+certified_is r me s k one =
+    ap (λ items. record (with_certificate s k) { outbox = s.outbox ++ items }) (none_shared r me s.local.view k one)
+    ∙ ap (λ items. record (with_certificate s k) { outbox = items }) (append-nil s.outbox)
+
 -- all but local ordering
 record IsBeside (r : Roster) (me : ReplicaId) (s : Replica) (formed : List CommitCert) : Type 0 where
   kept : (k : CommitCert) → In k formed → IsSome (certificate_for s.rounds.certificates (round_of k) k.cluster)
@@ -122,15 +139,15 @@ said_asked me full y m h asked = go (is_own me (signer_of y)) h
     go true (inr none) = absurd none
     go false none = absurd none
 
-outs_heed : (r : Roster) (me : ReplicaId) (s : Replica) (diary : List Entry) (outs : List Out) (formed : List CommitCert)
+outs_heed : (r : Roster) (me : ReplicaId) (s : Replica) (diary : List Entry) (outs : List Out) (formed : List CommitCert) → length r.sizes ≡ 1
     → ((o : Out) → In o outs → IsFine r me (full_of me s diary) o) → IsBeside r me s formed → s.rounds.executed ≤ number_said (full_of me s diary)
     → ((m : Message) → In (Said m) (full_of me s diary) → IsAskedFor (full_of me s diary) m)
     → AreHeeded r me s.local (formed_by formed outs) (after_puts me (full_of me s diary) outs) []
-    → AreHeedful r me (after_outs s outs) (formed_by formed outs) (full_of me (after_outs s outs) diary)
-outs_heed r me s diary [] formed fine beside noted asked are =
+    → AreHeedful r me (after_outs r me s outs) (formed_by formed outs) (full_of me (after_outs r me s outs) diary)
+outs_heed r me s diary [] formed one fine beside noted asked are =
     record { local = are; kept = beside.kept; executed = beside.executed; outgoing = beside.outgoing; noted = noted; asked = asked }
-outs_heed r me s diary (Out.Put item ∷ rest) formed fine beside noted asked are =
-    let now = after_out s (Out.Put item) in
+outs_heed r me s diary (Out.Put item ∷ rest) formed one fine beside noted asked are =
+    let now = after_out r me s (Out.Put item) in
     let e = full_put me s diary item in
     let full = full_of me s diary in
     let grown = after_saying full (statements_by me item.message) in
@@ -141,7 +158,7 @@ outs_heed r me s diary (Out.Put item ∷ rest) formed fine beside noted asked ar
       | inl old ↦ asked_more full (full_of me now diary) m hears (asked m old)
       | inr new ↦ asked_more full (full_of me now diary) m hears (said_asked me full item.message m new first.1)
     ]) in
-    outs_heed r me now diary rest formed (λ o h. fine_more r me full (full_of me now diary) o hears (fine o (inr h))) (record {
+    outs_heed r me now diary rest formed one (λ o h. fine_more r me full (full_of me now diary) o hears (fine o (inr h))) (record {
       kept = beside.kept;
       executed = beside.executed;
       outgoing = λ x h. (elim (in_append_cases x s.outbox (item ∷ []) h) [
@@ -152,10 +169,13 @@ outs_heed r me s diary (Out.Put item ∷ rest) formed fine beside noted asked ar
     })
     (omega (arith, noted, ap number_said e, said_saying (full_of me s diary) (statements_by me item.message))) still
     (subst (λ f. AreHeeded r me s.local (formed_by formed rest) (after_puts me f rest) []) (sym e) are)
-outs_heed r me s diary (Out.Certified k ∷ rest) formed fine beside noted asked are =
+outs_heed r me s diary (Out.Clear ∷ rest) formed one fine beside noted asked are = absurd (fine Out.Clear (inl refl))
+outs_heed r me s diary (Out.Entered base ∷ rest) formed one fine beside noted asked are = absurd (fine (Out.Entered base) (inl refl))
+outs_heed r me s diary (Out.Certified k ∷ rest) formed one fine beside noted asked are =
     let here = fine (Out.Certified k) (inl refl) in
-    let now = after_out s (Out.Certified k) in
-    outs_heed r me now diary rest (k ∷ formed) (λ o h. fine o (inr h)) (record {
+    let now = with_certificate s k in
+    subst (λ (x : Replica). AreHeedful r me (after_outs r me x rest) (formed_by (k ∷ formed) rest) (full_of me (after_outs r me x rest) diary)) (sym (certified_is r me s k one))
+    (outs_heed r me now diary rest (k ∷ formed) one (λ o h. fine o (inr h)) (record {
       kept = λ c h. (elim h as (λ _. IsSome (certificate_for now.rounds.certificates (round_of c) c.cluster)) [
         | inl same ↦ subst (λ x. IsSome (certificate_for now.rounds.certificates (round_of x) x.cluster)) same
             (now_kept s.rounds k (λ past. subst (λ j. IsSome (certificate_for s.rounds.certificates (round_of k) j)) (sym here.0) (beside.executed (round_of k) here.1 past)))
@@ -163,16 +183,16 @@ outs_heed r me s diary (Out.Certified k ∷ rest) formed fine beside noted asked
       ]);
       executed = λ round from upto. some_stays s.rounds k round me.cluster (beside.executed round from upto);
       outgoing = beside.outgoing;
-    }) noted asked are
+    }) noted asked are)
 
-told_heedful : (r : Roster) (me : ReplicaId) (s : Replica) (diary : List Entry) (t : Told) (formed : List CommitCert) → IsBeside r me s formed
+told_heedful : (r : Roster) (me : ReplicaId) (s : Replica) (diary : List Entry) (t : Told) (formed : List CommitCert) → length r.sizes ≡ 1 → IsBeside r me s formed
     → s.rounds.executed ≤ number_said (full_of me s diary) → ((m : Message) → In (Said m) (full_of me s diary) → IsAskedFor (full_of me s diary) m)
     → IsHeededOf r me t.local t.outs formed (full_of me s diary) []
-    → IsHeedful r me (after_told s t).state diary
-told_heedful r me s diary t formed beside noted asked of =
+    → IsHeedful r me (after_told r me s t).state diary
+told_heedful r me s diary t formed one beside noted asked of =
     record {
       formed = formed_by formed t.outs;
-      are = outs_heed r me (record s { local = t.local }) diary t.outs formed of.fine
+      are = outs_heed r me (record s { local = t.local }) diary t.outs formed one of.fine
           (record { kept = beside.kept; executed = beside.executed; outgoing = beside.outgoing }) noted asked of.are;
     }
 
@@ -181,15 +201,15 @@ beside_of r me s formed full h = record { kept = h.kept; executed = h.executed; 
 
 -- ---- Hear
 
-hear_heedful : (r : Roster) (me : ReplicaId) (s : Replica) (diary : List Entry) (m : Message) → IsMember r me → IsShaped r m → AreRelated r me s diary
-    → IsHeedful r me s diary → IsHeedful r me (after_told s (hear r me s.local m)).state (Heard m ∷ diary)
-hear_heedful r me s diary m member fine rel h =
+hear_heedful : (r : Roster) (me : ReplicaId) (s : Replica) (diary : List Entry) (m : Message) → length r.sizes ≡ 1 → IsMember r me → IsShaped r m → AreRelated r me s diary
+    → IsHeedful r me s diary → IsHeedful r me (after_told r me s (hear r me s.local m)).state (Heard m ∷ diary)
+hear_heedful r me s diary m one member fine rel h =
     let items = statements_in me s.outbox in
     let next = Heard m ∷ diary in
     let full = after_saying diary items in
     let now = after_saying next items in
     let g = waiting_has_grown diary next items (grown_by_heard diary m) in
-    let local = (machine.hears r me s diary m fine rel).local in
+    let local = (machine.hears r me s diary m fine rel.facts).local in
     let says : SaysAll full now = λ x q. (elim (said_cases diary items x q) [
       | inl old ↦ still_said next items x (inr old)
       | inr waits ↦ now_said next items x waits
@@ -205,10 +225,25 @@ hear_heedful r me s diary m member fine rel h =
       proposed = proposed_alike me s.local.slots.low s.local.next s.local.proposed full now says all.proposed;
       marked = marked_alike r me s.local.executed s.local.due full now says all.marked;
     } in
-    told_heedful r me s next (hear r me s.local m) h.formed (beside_of r me s h.formed full h.are)
+    told_heedful r me s next (hear r me s.local m) h.formed one (beside_of r me s h.formed full h.are)
     (omega (arith, h.are.noted, said_saying diary items, said_saying next items))
     (λ x q. asked_more full now x g.heard (h.are.asked x (g.said x q)))
     (hear_heeded r me s.local m h.formed now [] member local (still_heard next items m (inl refl)) before)
+
+-- a plain message goes to local ordering, which hears it as it is
+pub hear_plain : (r : Roster) (me : ReplicaId) (s : Replica) (m : Message) → IsPlainMessage m → hear_step r me s m ≡ after_told r me s (hear r me s.local m)
+hear_plain r me s (Message.Request x) plain = refl
+hear_plain r me s (Message.PrePrepare x) plain = refl
+hear_plain r me s (Message.Prepare x) plain = refl
+hear_plain r me s (Message.Commit x) plain = refl
+hear_plain r me s (Message.Checkpoint x) plain = refl
+hear_plain r me s (Message.ReplyNote x) plain = refl
+hear_plain r me s (Message.ViewChange x) plain = absurd plain
+hear_plain r me s (Message.NewView x) plain = absurd plain
+hear_plain r me s (Message.Drvc x) plain = absurd plain
+hear_plain r me s (Message.Rvc x) plain = absurd plain
+hear_plain r me s (Message.Share x) plain = absurd plain
+hear_plain r me s (Message.Fetch x) plain = absurd plain
 
 -- ---- Emit
 
@@ -278,12 +313,12 @@ executed_heedful r me s diary blocks ran member found rel after h =
     → slice_index s.local.last client.number ≤ slice_index (stamps_after s.local.last ran.block.batch ran.outcomes) client.number = λ client home.
     omega (
       arith,
-      rel.rounds.stamps client home,
-      after.rounds.stamps client home,
+      rel.facts.rounds.stamps client home,
+      after.facts.rounds.stamps client home,
       ap (λ t. last_of t client.number) (state_after_blocks-append (start_of r) s.rounds.blocks blocks),
       rises_blocks (state_after_blocks (start_of r) s.rounds.blocks) blocks client.number,
     ) in
-    let served_now = served_heeded r me s.local round ran.block.batch ran.outcomes (chain rounds) h.formed full (ap (λ n. n + 1) rel.rounds.told) rises h.are.local in
+    let served_now = served_heeded r me s.local round ran.block.batch ran.outcomes (chain rounds) h.formed full (ap (λ n. n + 1) rel.facts.rounds.told) rises h.are.local in
     let first : AreHeeded r me now.local h.formed mid [] = heeded_alike r me now.local h.formed full mid [] alike served_now in
     let whole = is_whole (length r.sizes) s.rounds blocks found in
     let mine : length (statements_by me item.message) ≡ 1 = ap (λ b. length (cond b (item.message ∷ []) [])) (own me) in
@@ -301,7 +336,7 @@ executed_heedful r me s diary blocks ran member found rel after h =
         ]);
         outgoing = λ x q. (elim (in_append_cases x s.outbox (item ∷ []) q) [
           | inl old ↦ h.are.outgoing x old
-          | inr (inl same) ↦ subst (IsOutgoing r me) same (record { own = own me; to = inr (tt, refl) })
+          | inr (inl same) ↦ subst (IsOutgoing r me) same (record { own = own me; plain = tt; to = inr (tt, refl) })
           | inr (inr none) ↦ absurd none
         ]);
         noted = omega (
@@ -333,7 +368,7 @@ execute_heedful r me s diary member rel after h = go (next_round (length r.sizes
   where
     by : (blocks : List Block) → next_round (length r.sizes) s.rounds ≡ Ok blocks → (o : Option RunBlock) → (let now = after_noting r me s (with_round s.rounds blocks) o in
         AreRelated r me now (diary_did diary (drop (length s.rounds.blocks) now.rounds.blocks)) → IsHeedful r me now (diary_did diary (drop (length s.rounds.blocks) now.rounds.blocks)))
-    by blocks e None a = absurd (omega (arith, a.rounds.told, rel.rounds.told))
+    by blocks e None a = absurd (omega (arith, a.facts.rounds.told, rel.facts.rounds.told))
     by blocks e (Some ran) a =
         let now = after_noting r me s (with_round s.rounds blocks) (Some ran) in
         let gained = drop_front s.rounds.blocks blocks in
@@ -347,26 +382,30 @@ execute_heedful r me s diary member rel after h = go (next_round (length r.sizes
 
 -- ---- any event
 
-proposing_heedful : (r : Roster) (me : ReplicaId) (s : Replica) (diary : List Entry) (nudged : Bool) → AreRelated r me s diary → IsHeedful r me s diary
+proposing_heedful : (r : Roster) (me : ReplicaId) (s : Replica) (diary : List Entry) (nudged : Bool) → length r.sizes ≡ 1 → AreRelated r me s diary → IsHeedful r me s diary
     → IsHeedful r me (step r me s (if nudged then Event.Nudge else Event.Batch)).state diary
-proposing_heedful r me s diary true rel h =
-    told_heedful r me s diary (propose r me s.local true (knows_others me.cluster s.rounds.certificates s.local.next)) h.formed (beside_of r me s h.formed _ h.are) h.are.noted h.are.asked
-    (propose_heeded r me s.local true (knows_others me.cluster s.rounds.certificates s.local.next) h.formed (full_of me s diary) rel.local h.are.local)
-proposing_heedful r me s diary false rel h =
-    told_heedful r me s diary (propose r me s.local false (knows_others me.cluster s.rounds.certificates s.local.next)) h.formed (beside_of r me s h.formed _ h.are) h.are.noted h.are.asked
-    (propose_heeded r me s.local false (knows_others me.cluster s.rounds.certificates s.local.next) h.formed (full_of me s diary) rel.local h.are.local)
+proposing_heedful r me s diary true one rel h =
+    told_heedful r me s diary (propose r me s.local true (knows_others me.cluster s.rounds.certificates s.local.next)) h.formed one (beside_of r me s h.formed _ h.are) h.are.noted h.are.asked
+    (propose_heeded r me s.local true (knows_others me.cluster s.rounds.certificates s.local.next) h.formed (full_of me s diary) rel.facts.local h.are.local)
+proposing_heedful r me s diary false one rel h =
+    told_heedful r me s diary (propose r me s.local false (knows_others me.cluster s.rounds.certificates s.local.next)) h.formed one (beside_of r me s h.formed _ h.are) h.are.noted h.are.asked
+    (propose_heeded r me s.local false (knows_others me.cluster s.rounds.certificates s.local.next) h.formed (full_of me s diary) rel.facts.local h.are.local)
 
-pub step_heedful : (r : Roster) (me : ReplicaId) (s : Replica) (diary : List Entry) (e : Event) → IsWithinLimits r → IsTrue (is_replica r me) → MayCome r e
+pub step_heedful : (r : Roster) (me : ReplicaId) (s : Replica) (diary : List Entry) (e : Event) → IsWithinLimits r → length r.sizes ≡ 1
+    → IsTrue (is_replica r me) → MayCome r e → IsPlain e
     → AreRelated r me s diary → IsHeedful r me s diary → IsHeedful r me (step r me s e).state (diary_after me s e (step r me s e).state diary)
-step_heedful r me s diary (Event.Hear m) limits known may rel h = hear_heedful r me s diary m (is_member r me limits known) may rel h
-step_heedful r me s diary Event.Batch limits known may rel h = proposing_heedful r me s diary false rel h
-step_heedful r me s diary Event.Nudge limits known may rel h = proposing_heedful r me s diary true rel h
-step_heedful r me s diary (Event.Emit sig) limits known may rel h = emit_heedful r me s diary sig h
-step_heedful r me s diary Event.Execute limits known may rel h =
+step_heedful r me s diary (Event.Hear m) limits one known may plain rel h =
+    subst (λ (t : Stepped). IsHeedful r me t.state (Heard m ∷ diary)) (sym (hear_plain r me s m plain))
+    (hear_heedful r me s diary m one (is_member r me limits known) may rel h)
+step_heedful r me s diary Event.Batch limits one known may plain rel h = proposing_heedful r me s diary false one rel h
+step_heedful r me s diary Event.Nudge limits one known may plain rel h = proposing_heedful r me s diary true one rel h
+step_heedful r me s diary (Event.Emit sig) limits one known may plain rel h = emit_heedful r me s diary sig h
+step_heedful r me s diary Event.Execute limits one known may plain rel h =
     execute_heedful r me s diary (is_member r me limits known) rel (step_keeps r me s diary Event.Execute limits known tt rel) h
-step_heedful r me s diary Event.Checkpoint limits known may rel h =
-    told_heedful r me s diary (checkpoint r me s.local) h.formed (beside_of r me s h.formed _ h.are) h.are.noted h.are.asked
-    (checkpoint_heeded r me s.local h.formed (full_of me s diary) (is_member r me limits known) rel.rules rel.local h.are.local)
+step_heedful r me s diary Event.Checkpoint limits one known may plain rel h =
+    told_heedful r me s diary (checkpoint r me s.local) h.formed one (beside_of r me s h.formed _ h.are) h.are.noted h.are.asked
+    (checkpoint_heeded r me s.local h.formed (full_of me s diary) (is_member r me limits known) rel.facts.rules rel.facts.local h.are.local)
+step_heedful r me s diary Event.Timeout limits one known may plain rel h = absurd plain
 
 -- ---- at the start
 
@@ -421,25 +460,32 @@ record AreBoth (r : Roster) (me : ReplicaId) (s : Replica) (diary : List Entry) 
   related : AreRelated r me s diary
   heedful : IsHeedful r me s diary
 
-events_keep : (r : Roster) (me : ReplicaId) (s : Replica) (diary : List Entry) (events : List Event) → IsWithinLimits r → IsTrue (is_replica r me)
-    → ((e : Event) → In e events → MayCome r e) → AreBoth r me s diary → AreBoth r me (state_from r me s events) (diary_from r me s diary events)
-events_keep r me s diary [] limits known may both = both
-events_keep r me s diary (e ∷ rest) limits known may both =
+related_from : (r : Roster) (me : ReplicaId) (s : Replica) (diary : List Entry) (events : List Event) → IsWithinLimits r → IsTrue (is_replica r me)
+    → ((e : Event) → In e events → MayCome r e) → AreRelated r me s diary → AreRelated r me (state_from r me s events) (diary_from r me s diary events)
+related_from r me s diary [] limits known may rel = rel
+related_from r me s diary (e ∷ rest) limits known may rel =
     let now = (step r me s e).state in
-    events_keep r me now (diary_after me s e now diary) rest limits known (λ x h. may x (inr h)) (record {
-      related = step_keeps r me s diary e limits known (may e (inl refl)) both.related;
-      heedful = step_heedful r me s diary e limits known (may e (inl refl)) both.related both.heedful;
-    })
-
-both_of : (r : Roster) (me : ReplicaId) (events : List Event) → IsWithinLimits r → IsTrue (is_replica r me) → ((e : Event) → In e events → MayCome r e)
-    → AreBoth r me (state_of r me events) (diary_of r me events)
-both_of r me events limits known may =
-    events_keep r me (fresh r me) [] events limits known may (record { related = starts_related r me limits known; heedful = starts_heedful r me limits known })
+    related_from r me now (diary_after me s e now diary) rest limits known (λ x h. may x (inr h)) (step_keeps r me s diary e limits known (may e (inl refl)) rel)
 
 pub events_related : (r : Roster) (me : ReplicaId) (events : List Event) → IsWithinLimits r → IsTrue (is_replica r me) → ((e : Event) → In e events → MayCome r e)
     → AreRelated r me (state_of r me events) (diary_of r me events)
-events_related r me events limits known may = (both_of r me events limits known may).related
+events_related r me events limits known may = related_from r me (fresh r me) [] events limits known may (starts_related r me limits known)
 
-pub events_heedful : (r : Roster) (me : ReplicaId) (events : List Event) → IsWithinLimits r → IsTrue (is_replica r me) → ((e : Event) → In e events → MayCome r e)
-    → IsHeedful r me (state_of r me events) (diary_of r me events)
-events_heedful r me events limits known may = (both_of r me events limits known may).heedful
+abbrev pub ArePlain : List Event → Type 0
+ArePlain events = (e : Event) → In e events → IsPlain e
+
+events_keep : (r : Roster) (me : ReplicaId) (s : Replica) (diary : List Entry) (events : List Event) → IsWithinLimits r → length r.sizes ≡ 1
+    → IsTrue (is_replica r me) → ((e : Event) → In e events → MayCome r e) → ArePlain events → AreBoth r me s diary
+    → AreBoth r me (state_from r me s events) (diary_from r me s diary events)
+events_keep r me s diary [] limits one known may plain both = both
+events_keep r me s diary (e ∷ rest) limits one known may plain both =
+    let now = (step r me s e).state in
+    events_keep r me now (diary_after me s e now diary) rest limits one known (λ x h. may x (inr h)) (λ x h. plain x (inr h)) (record {
+      related = step_keeps r me s diary e limits known (may e (inl refl)) both.related;
+      heedful = step_heedful r me s diary e limits one known (may e (inl refl)) (plain e (inl refl)) both.related both.heedful;
+    })
+
+pub events_heedful : (r : Roster) (me : ReplicaId) (events : List Event) → IsWithinLimits r → length r.sizes ≡ 1 → IsTrue (is_replica r me)
+    → ((e : Event) → In e events → MayCome r e) → ArePlain events → IsHeedful r me (state_of r me events) (diary_of r me events)
+events_heedful r me events limits one known may plain =
+    (events_keep r me (fresh r me) [] events limits one known may plain (record { related = starts_related r me limits known; heedful = starts_heedful r me limits known })).heedful

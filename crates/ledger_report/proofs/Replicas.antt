@@ -1,5 +1,6 @@
--- The replicas of a script's run: each trace can be replayed, and what its machine comes to has the ledger of its diary.
-use Rattle.std.proofs.Common.{◌≡◌, length, List, [], ◌∷◌, ◌++◌, map, inl, inr, refl, sym, ap, subst, ◌∙◌}
+-- The replicas of a script's run: each trace can be replayed, and what its machine comes to has the ledger of its diary. A faulty replica
+-- runs the same machine.
+use Rattle.std.proofs.Common.{◌≡◌, length, Bool, true, false, cond, List, [], ◌∷◌, ◌++◌, map, inl, inr, refl, sym, ap, subst, ◌∙◌}
 use Rattle.std.specs.Prelude.{IsTrue}
 use Rattle.std.specs.List.{All, flat_map}
 use Rattle.std.proofs.lemmas.List.Elements.{All-nil, All-cons}
@@ -12,6 +13,7 @@ use Rattle.fab_rules.specs.Diary.{ledger}
 use Rattle.fab_rules.specs.Lists.{In}
 use Rattle.fab_rules.proofs.Lists.{of_map}
 use Rattle.fab_rules.proofs.Saying.{ledger-after_saying}
+use Rattle.fab_rules.specs.declared.blocks.Block.{Block}
 use Rattle.fab_machine.specs.State.{Replica, fresh}
 use Rattle.fab_machine.specs.Items.{statements_in}
 use Rattle.fab_machine.specs.Step.{step}
@@ -27,14 +29,16 @@ use Rattle.run_words.specs.declared.logs.Trace.{Trace}
 use Rattle.run_words.specs.declared.logs.Transcript.{Transcript}
 use Rattle.run_words.proofs.Replays.{same_diary}
 use Rattle.script_keys.specs.Keys.{replicas_of}
+use Rattle.world_laws.specs.World.{longest}
 use Rattle.run_worlds.specs.Scripts.{roster_of, maker_of, makers_of}
-use Rattle.run_worlds.specs.Worlds.{ledgers_in}
+use Rattle.run_worlds.specs.Worlds.{is_correct_one, ledgers_in}
 use Rattle.run_worlds.specs.Endings.{IsOfLogs}
 use Rattle.run_worlds.proofs.ScriptLimits.{within_limits}
 use Rattle.audit_laws.proofs.Members.{takes_part}
-use Rattle.ledger_report.specs.Report.{ledger_line, ledger_lines}
+use Rattle.ledger_report.specs.Report.{replica_line, replica_lines}
 use Rattle.replica_log.specs.Replayed.{state_after}
-use Rattle.ledger_report.specs.Replayed.{ledger_after, ledger_text, HasLedger}
+use Rattle.ledger_report.specs.Replayed.{ledger_after, replica_text, longest_after, HasLedger}
+use Rattle.ledger_report.proofs.Longest.{pick, pick_none}
 
 -- ---- the state after a journal, and its diary
 
@@ -45,6 +49,7 @@ may_come m Entry.Nudged h = tt
 may_come m (Entry.Sent item) h = tt
 may_come m Entry.Executed h = tt
 may_come m Entry.Marked h = tt
+may_come m Entry.TimedOut h = tt
 
 related : (m : Maker) (r : Roster) (me : ReplicaId) (s : Replica) (past : List diaries.Entry) (journal : List Entry) → IsWithinLimits r
     → IsTrue (is_replica r me) → m.roster ≡ r → AreSound m journal → AreRelated r me s past
@@ -82,25 +87,31 @@ is_told r m t limits is kept =
           made = kept.replays;
           sound = kept.sound;
         };
-        whole = rel.rounds.whole;
+        whole = rel.facts.rounds.whole;
       };
       ledger_is =
           ap ledger (same_diary m t.journal kept.replays)
           ∙ (λ i. ledger (diary_of (is.roster_is i) (named i) events))
           ∙ sym (ledger-after_saying (diary_of r t.id events) (statements_in t.id (state_after r t).outbox))
-          ∙ sym rel.rounds.blocks_are;
+          ∙ sym rel.facts.rounds.blocks_are;
     }
 
 -- ---- all traces
 
+-- one ledger more: a faulty replica's counts as none
+counted_more : (b : Bool) (own now : List Block) (more : List (List Block)) (rest : List Block) → own ≡ now → longest more ≡ rest
+    → longest (cond b (own ∷ more) more) ≡ pick (cond b now []) rest
+counted_more true own now more rest e f = λ i. pick (e i) (f i)
+counted_more false own now more rest e f = f ∙ sym (pick_none rest)
+
 pub record AreTold (r : Roster) (makers : List Maker) (traces : List Trace) : Type 0 where
   pub have_ledgers : All (HasLedger r) traces
-  pub lines : ledger_lines (length r.sizes) makers traces ≡ flat_map (ledger_text r) traces
-  pub ledgers : ledgers_in makers traces ≡ map (ledger_after r) traces
+  pub lines : replica_lines (length r.sizes) makers traces ≡ flat_map (replica_text r) traces
+  pub longest_is : longest (ledgers_in makers traces) ≡ longest_after r traces
 
 are_told : (r : Roster) (makers : List Maker) (traces : List Trace) → IsWithinLimits r → ((m : Maker) → In m makers → IsMember r m)
     → AreEach Kept makers traces → AreTold r makers traces
-are_told r [] [] limits is kept = record { have_ledgers = All-nil (HasLedger r); lines = refl; ledgers = refl }
+are_told r [] [] limits is kept = record { have_ledgers = All-nil (HasLedger r); lines = refl; longest_is = refl }
 are_told r [] (t ∷ traces) limits is kept = absurd kept
 are_told r (m ∷ makers) [] limits is kept = absurd kept
 are_told r (m ∷ makers) (t ∷ traces) limits is kept =
@@ -109,8 +120,11 @@ are_told r (m ∷ makers) (t ∷ traces) limits is kept =
     record {
       have_ledgers = All-cons (HasLedger r) t traces here.has_ledger rest.have_ledgers;
       lines =
-          (λ i. ledger_line (length r.sizes) t.id (here.ledger_is i) ++ rest.lines i) ∙ sym (flat_map-cons (ledger_text r) t traces);
-      ledgers = λ i. here.ledger_is i ∷ rest.ledgers i;
+          (λ i. replica_line (length r.sizes) t.fault t.id (here.ledger_is i) ++ rest.lines i)
+          ∙ sym (flat_map-cons (replica_text r) t traces);
+      longest_is =
+          counted_more (is_correct_one t) (ledger (diary m t.journal)) (ledger_after r t) (ledgers_in makers traces) (longest_after r traces)
+          here.ledger_is rest.longest_is;
     }
 
 members_are : (script : Script) (m : Maker) → In m (makers_of script) → IsMember (roster_of script) m

@@ -15,6 +15,7 @@ use Rattle.fab_machine.specs.State.{Rounds}
 use Rattle.fab_machine.specs.Rounds.{has_block, place_of, ran_block}
 use Rattle.run_words.specs.declared.logs.Trace.{Trace}
 use Rattle.round_exec.proofs.Places.{run_blocks}
+use Rattle.run_worlds.specs.Worlds.{correct_of}
 use Rattle.ledger_report.specs.Text.{reply_lines, table_text}
 use Rattle.ledger_report.specs.Report.{block_lines}
 use Rattle.ledger_report.specs.Telling.{Telling, telling_of}
@@ -83,12 +84,12 @@ lines_step f done now whole s t left rest b o n e a l h =
 
 -- ---- what is told is what the journals tell
 
-lines_are : (traces : List Trace) (ran : List RunBlock) → flat_map (lines_told (map telling_of traces)) ran ≡ flat_map (block_lines traces) ran
+lines_are : (traces : List Trace) (ran : List RunBlock) → flat_map (lines_told (map telling_of (correct_of traces))) ran ≡ flat_map (block_lines traces) ran
 lines_are traces ran =
     ap (λ (f : RunBlock → List ℕ). flat_map f ran) (λ i x. block_line x.block (notes_are traces x i) ++ reply_lines x.block.batch x.outcomes)
 
 pub run_is : (now mid old : List ℕ) (traces : List Trace) (told : List Telling) (s t u : State) (entries : List (List ℕ × List ℕ)) (blocks : List Block)
-    → told ≡ map telling_of traces → s ≡ u → t ≡ state_after_blocks s blocks → entries ≡ t.entries
+    → told ≡ map telling_of (correct_of traces) → s ≡ u → t ≡ state_after_blocks s blocks → entries ≡ t.entries
     → mid ≡ old ++ flat_map (lines_told told) (run_from s blocks) → now ≡ mid ++ table_text entries → now ≡ old ++ run_text traces u blocks
 run_is now mid old traces told s t u entries blocks a b c d e f =
     let table : entries ≡ (state_after_blocks u blocks).entries = d ∙ (λ i. (c i).entries) ∙ (λ i. (state_after_blocks (b i) blocks).entries) in

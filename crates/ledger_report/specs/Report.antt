@@ -1,6 +1,7 @@
--- The report of a run (ours): each replica's ledger; the longest ledger's blocks, with what their requests came to and how many replicas
--- said so; the table; and the end. Each line ends with a line feed, numbers are decimal, digests are in lower-case hex.
-use Rattle.std.specs.Prelude.{ℕ, ◌/◌, Bool, true, false, nat_eq, ◌&&◌, List, [], ◌∷◌, ◌++◌, length, sum, codes, decimal, flat_map}
+-- The report of a run (ours): each correct replica's ledger, and how the others are faulty; the longest ledger's blocks, with what their
+-- requests came to and how many correct replicas said so; the table; and the end. Each line ends with a line feed, numbers are decimal,
+-- digests are in lower-case hex.
+use Rattle.std.specs.Prelude.{ℕ, ◌/◌, Bool, true, false, nat_eq, ◌&&◌, List, [], ◌∷◌, ◌++◌, length, sum, codes, decimal, flat_map, Option, Some, None}
 use Rattle.std.specs.List.{list_any, count_by}
 use Rattle.std.specs.Str.{bytes_eq}
 use Rattle.std.specs.Cmp.Lexicographic.{pointwise}
@@ -18,6 +19,7 @@ use Rattle.fab_rules.specs.declared.blocks.Block.{Block}
 use Rattle.fab_rules.specs.Digests.{batch_digest}
 use Rattle.fab_rules.specs.Ledger.{RunBlock, chain_of, run, lines_of, start_of, state_after_blocks}
 use Rattle.fab_rules.specs.Diary.{ledger}
+use Rattle.fault_script.specs.declared.twists.Fault.{Fault}
 use Rattle.world_laws.specs.World.{longest}
 use Rattle.run_words.specs.Journal.{Maker, diary}
 use Rattle.run_words.specs.declared.ends.End.{End}
@@ -26,7 +28,7 @@ use Rattle.run_words.specs.declared.logs.Entry.{Entry}
 use Rattle.run_words.specs.declared.logs.Trace.{Trace}
 use Rattle.run_words.specs.declared.logs.Transcript.{Transcript}
 use Rattle.run_worlds.specs.Scripts.{roster_of, makers_of}
-use Rattle.run_worlds.specs.Worlds.{ledgers_of}
+use Rattle.run_worlds.specs.Worlds.{correct_of, ledgers_of}
 use Rattle.ledger_report.specs.Text.{reply_lines, table_text}
 
 -- `C.I`
@@ -37,7 +39,7 @@ id_text i = decimal i.cluster ++ codes "." ++ decimal i.index
 abbrev pub head_line : List ℕ → List ℕ
 head_line sizes = codes "fabric " ++ decimal (length sizes) ++ codes " " ++ decimal (sum sizes) ++ codes "\n"
 
--- ---- the ledgers
+-- ---- the replicas
 
 -- `ledger C.I ROUNDS CHAIN`: in each round each of so many clusters has a block
 abbrev pub ledger_line : ℕ → ReplicaId → List Block → List ℕ
@@ -45,11 +47,28 @@ ledger_line clusters i blocks =
     codes "ledger " ++ id_text i ++ codes " " ++ decimal (length blocks / clusters) ++ codes " "
     ++ encode_lower (chain_of blocks).bytes ++ codes "\n"
 
-abbrev pub ledger_lines : ℕ → List Maker → List Trace → List ℕ
-ledger_lines clusters [] traces = []
-ledger_lines clusters (m ∷ makers) [] = []
-ledger_lines clusters (m ∷ makers) (t ∷ traces) =
-    ledger_line clusters t.id (ledger (diary m t.journal)) ++ ledger_lines clusters makers traces
+-- what a replica has wrong, as a script says it
+abbrev pub kind_text : Fault → List ℕ
+kind_text Fault.Silent = codes "silent"
+kind_text Fault.Equivocate = codes "equivocate"
+kind_text (Fault.Withhold cluster) = codes "withhold " ++ decimal cluster
+kind_text (Fault.Garble every) = codes "garble " ++ decimal every
+kind_text Fault.Replay = codes "replay"
+
+-- `faulty C.I KIND`
+abbrev pub faulty_line : ReplicaId → Fault → List ℕ
+faulty_line i fault = codes "faulty " ++ id_text i ++ codes " " ++ kind_text fault ++ codes "\n"
+
+-- the line of a replica: that of its ledger, unless it is faulty
+abbrev pub replica_line : ℕ → Option Fault → ReplicaId → List Block → List ℕ
+replica_line clusters None i blocks = ledger_line clusters i blocks
+replica_line clusters (Some fault) i blocks = faulty_line i fault
+
+abbrev pub replica_lines : ℕ → List Maker → List Trace → List ℕ
+replica_lines clusters [] traces = []
+replica_lines clusters (m ∷ makers) [] = []
+replica_lines clusters (m ∷ makers) (t ∷ traces) =
+    replica_line clusters t.fault t.id (ledger (diary m t.journal)) ++ replica_lines clusters makers traces
 
 -- ---- how many said so
 
@@ -79,9 +98,9 @@ abbrev pub tells : RunBlock → Entry → Bool
 tells ran (Entry.Sent item) = is_told_by ran item.message
 tells ran e = false
 
--- how many replicas of the block's cluster told this of it
+-- how many correct replicas of the block's cluster told this of it
 abbrev pub notes_of : List Trace → RunBlock → ℕ
-notes_of traces ran = count_by (λ t. nat_eq t.id.cluster ran.block.cluster && list_any (tells ran) t.journal) traces
+notes_of traces ran = count_by (λ t. nat_eq t.id.cluster ran.block.cluster && list_any (tells ran) t.journal) (correct_of traces)
 
 -- ---- the longest ledger
 
@@ -92,7 +111,7 @@ block_lines traces ran =
     ++ decimal (length ran.block.batch) ++ codes " " ++ decimal (notes_of traces ran) ++ codes "\n"
     ++ reply_lines ran.block.batch ran.outcomes
 
--- the longest ledger, the first such by id; of no replicas the empty one
+-- the longest ledger of a correct replica, the first such by id; of no such replica the empty one
 abbrev pub longest_ledger : Transcript → List Block
 longest_ledger t = longest (ledgers_of t)
 
@@ -118,7 +137,7 @@ end_line end = codes "end " ++ end_text end ++ codes "\n"
 abbrev pub report_text : Transcript → End → List ℕ
 report_text t end =
     head_line t.script.sizes
-    ++ ledger_lines (length t.script.sizes) (makers_of t.script) t.traces
+    ++ replica_lines (length t.script.sizes) (makers_of t.script) t.traces
     ++ flat_map (block_lines t.traces) (run (roster_of t.script) (longest_ledger t))
     ++ table_text (state_after_blocks (start_of (roster_of t.script)) (longest_ledger t)).entries
     ++ end_line end

@@ -1,10 +1,11 @@
-//! The lines of a report that say who has which ledger, and how the run ended.
+//! The lines of a report that say who has which ledger, who is faulty, and how the run ended.
 ghost use Rattle.std.specs.Prelude.{◌≡◌, ◌<◌, ◌≤◌, ◌++◌, codes, length, sum, IfOk, OnOk};
 ghost use Rattle.hex.specs.Hex.{encode_lower};
-ghost use Rattle.ledger_report.specs.Report.{id_text, head_line, ledger_line, who_text, end_text, end_line};
+ghost use Rattle.ledger_report.specs.Report.{id_text, head_line, ledger_line, kind_text, faulty_line, who_text, end_text, end_line};
 
 use crate::text::{push_bytes, push_number};
 use fab_base::{Hash32, MOST_REPLICAS, NoMemory, ReplicaId, Who};
+use fault_script::Fault;
 use round_exec::Rounds;
 use run_words::{End, Evidence};
 
@@ -70,6 +71,36 @@ pub(crate) fn push_ledger(
     push_digest(text, &rounds.chain())?;
     push_bytes(text, b"\n")?;
     Ok(blocks)
+}
+
+/// Adds what a replica has wrong, as a script says it.
+fn push_kind(text: &mut Vec<u8>, fault: Fault) -> Result<(), NoMemory>
+    ensures { OnOk result (text.new.items ≡ text.old.items ++ kind_text fault) }
+{
+    match fault {
+        Fault::Silent => push_bytes(text, b"silent"),
+        Fault::Equivocate => push_bytes(text, b"equivocate"),
+        Fault::Withhold { cluster } => {
+            push_bytes(text, b"withhold ")?;
+            push_number(text, cluster as u64)
+        }
+        Fault::Garble { every } => {
+            push_bytes(text, b"garble ")?;
+            push_number(text, every as u64)
+        }
+        Fault::Replay => push_bytes(text, b"replay"),
+    }
+}
+
+/// Adds the line of a faulty replica.
+pub(crate) fn push_faulty(text: &mut Vec<u8>, id: ReplicaId, fault: Fault) -> Result<(), NoMemory>
+    ensures { OnOk result (text.new.items ≡ text.old.items ++ faulty_line id fault) }
+{
+    push_bytes(text, b"faulty ")?;
+    push_id(text, id)?;
+    push_bytes(text, b" ")?;
+    push_kind(text, fault)?;
+    push_bytes(text, b"\n")
 }
 
 /// Adds whoever signs.

@@ -1,4 +1,4 @@
-//! What replicas told of blocks.
+//! What correct replicas told of blocks.
 ghost use Rattle.std.specs.Prelude.{◌≡◌, map, IfOk, IsTrue};
 ghost use Rattle.std.specs.Option.{option_copied};
 ghost use Rattle.std.specs.List.{list_any};
@@ -6,6 +6,7 @@ ghost use Rattle.std.specs.Cmp.Lexicographic.{pointwise};
 ghost use Rattle.fab_rules.specs.Digests.{batch_digest};
 ghost use Rattle.fab_rules.specs.Format.{batch_fits};
 ghost use Rattle.fab_rules.specs.Ledger.{lines_with};
+ghost use Rattle.run_worlds.specs.Worlds.{is_correct_one, correct_of};
 ghost use Rattle.ledger_report.specs.Report.{same_outcome, same_line, is_note_of};
 ghost use Rattle.ledger_report.specs.Telling.{note_in, note_sent, notes_in, telling_of, has_told, told_by};
 
@@ -76,13 +77,22 @@ fn told_in(alloc: Global, trace: &Trace) -> Result<Told<'_>, NoMemory>
     })
 }
 
-/// What each replica told.
+/// Whether a trace is of a correct replica: it bears no fault.
+fn is_correct(trace: &Trace) -> bool
+    ensures { result ≡ is_correct_one trace.now }
+{
+    trace.fault.is_none()
+}
+
+/// What each correct replica told.
 pub(crate) fn told_by_all(alloc: Global, traces: &[Trace]) -> Result<Vec<Told<'_>>, NoMemory>
-    ensures { IfOk result (λ all. all.items ≡ map telling_of traces.now) }
+    ensures { IfOk result (λ all. all.items ≡ map telling_of (correct_of traces.now)) }
 {
     let mut all = Vec::with_capacity(alloc, traces.len())?;
     for trace in traces {
-        all.push(told_in(alloc, trace)?)?;
+        if is_correct(trace) {
+            all.push(told_in(alloc, trace)?)?;
+        }
     }
     Ok(all)
 }
@@ -156,7 +166,7 @@ fn has_told(told: &Told, block: &Block, digest: &Hash32, outcomes: &Outcomes) ->
     told.cluster == block.cluster && any_is_note_of(told.notes.as_slice(), block, digest, outcomes)
 }
 
-/// How many replicas of the block's cluster told this of it.
+/// How many of these, of the block's cluster, told this of it.
 pub(crate) fn told_by(all: &[Told], block: &Block, outcomes: &Outcomes) -> u64
     requires { IsTrue (batch_fits block.now.batch) }
     ensures { result ≡ told_by all.now (record { block = block.now; outcomes = outcomes.now }) }

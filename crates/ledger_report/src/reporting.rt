@@ -13,8 +13,8 @@ use std::alloc::Global;
 
 /// The report of a run that ended so, of any transcript that logs may hold. It fails only where memory is refused.
 ///
-/// The time is that of one replay of each journal, and of a second one of the journal with the longest ledger. One replica's state is
-/// held at a time.
+/// The time is that of one replay of each correct replica's journal, and of a second one of the journal with the longest ledger. One
+/// replica's state is held at a time.
 pub fn report(alloc: Global, transcript: &Transcript, end: &End) -> Result<Bytes, NoMemory>
     requires { IsOfLogs transcript.now }
     ensures { IfOk result (λ text. text ≡ report_text transcript.now end.now) }

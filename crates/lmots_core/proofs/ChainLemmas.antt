@@ -31,6 +31,12 @@ chain_start_none id q i from value = let e : from - from ≡ 0 = omega arith in 
 pub chain_from_first : (id : List ℕ) (q i to : ℕ) (value : List ℕ) → chain id q i 0 (to - 0) value ≡ chain id q i 0 to value
 chain_from_first id q i to value = let e : to - 0 ≡ to = omega arith in ap (λ (n : ℕ). chain id q i 0 n value) e
 
+-- one step on in a chain from its first place
+pub chain_next : (id : List ℕ) (q i j : ℕ) (value : List ℕ) → chain id q i 0 (j + 1) value ≡ chain_step id q i j (chain id q i 0 j value)
+chain_next id q i j value =
+    let place : 0 + j ≡ j = omega arith in
+    chain_more id q i 0 j value ∙ ap (λ (p : ℕ). chain_step id q i p (chain id q i 0 j value)) place
+
 -- a chain in two parts
 pub chain_add : (id : List ℕ) (q i m n : ℕ) (value : List ℕ)
     → chain id q i m n (chain id q i 0 m value) ≡ chain id q i 0 (m + n) value

@@ -4,3 +4,4 @@ pub mod SignatureLemmas
 pub mod StepLemmas
 pub mod RunningLemmas
 pub mod LeafLemmas
+pub mod AbreastLemmas

@@ -99,14 +99,20 @@ length-step id q i j words long =
     omega (arith, l1, l2, l3, l4, l5)
 
 -- lane i of words that straddle
-pub straddled_lane : (s x y : List ℕ) (f g : ℕ → ℕ) (i : ℕ) → i < 4 → s ≡ quad (λ k. three_and_one (slice_index x k) (slice_index y k)) → x ≡ quad f → y ≡ quad g
-    → slice_index s i ≡ three_and_one (f i) (g i)
-straddled_lane s x y f g i lt e ex ey = at_lane s (λ k. three_and_one (slice_index x k) (slice_index y k)) i lt e ∙ rw (at_lane x f i lt ex, at_lane y g i lt ey) refl
+pub straddled_lane : (s x y : List ℕ) (a b i : ℕ) → i < 4 → s ≡ quad (λ k. three_and_one (slice_index x k) (slice_index y k)) → slice_index x i ≡ a → slice_index y i ≡ b
+    → slice_index s i ≡ three_and_one a b
+straddled_lane s x y a b i lt e ex ey = at_lane s (λ k. three_and_one (slice_index x k) (slice_index y k)) i lt e ∙ rw (ex, ey) refl
 
 -- lane i of words that begin with chains and places
-pub heads_lane : (s x chains places : List ℕ) (f : ℕ → ℕ) (i : ℕ) → i < 4
-    → s ≡ quad (λ k. head_word (slice_index chains k) (slice_index places k) (slice_index x k)) → x ≡ quad f
-    → slice_index s i ≡ head_word (slice_index chains i) (slice_index places i) (f i)
-heads_lane s x chains places f i lt e ex =
+pub heads_lane : (s x chains places : List ℕ) (a i : ℕ) → i < 4
+    → s ≡ quad (λ k. head_word (slice_index chains k) (slice_index places k) (slice_index x k)) → slice_index x i ≡ a
+    → slice_index s i ≡ head_word (slice_index chains i) (slice_index places i) a
+heads_lane s x chains places a i lt e ex =
     at_lane s (λ k. head_word (slice_index chains k) (slice_index places k) (slice_index x k)) i lt e
-    ∙ ap (λ (n : ℕ). head_word (slice_index chains i) (slice_index places i) n) (at_lane x f i lt ex)
+    ∙ ap (λ (n : ℕ). head_word (slice_index chains i) (slice_index places i) n) ex
+
+-- the bytes of a word are its own, whichever list it stands in
+pub digest_same : (a b : List ℕ) (n : ℕ) → ((t : ℕ) → t < n → slice_index a t ≡ slice_index b t) → digest_bytes a n ≡ digest_bytes b n
+unfolding digest_bytes
+digest_same a b zero h = refl
+digest_same a b (suc n) h = rw (digest_same a b n (λ t lt. h t (omega arith)), h n (omega arith)) refl

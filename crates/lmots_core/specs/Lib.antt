@@ -3,3 +3,4 @@ pub mod Digits
 pub mod Chains
 pub mod OneTime
 pub mod Running
+pub mod Abreast

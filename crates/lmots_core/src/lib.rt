@@ -8,8 +8,9 @@
 //!
 //! - [`OtsKind`] is the parameter set: digits of 1, 2, 4 or 8 bits.
 //! - [`OtsSeed`] is the identifier and the seed, from which all keys of a tree come.
-//! - [`public_of`] makes a public key, [`sign`] a signature, and [`candidate`] computes from a
-//!   message and a signature the key under which that signature would be valid.
+//! - [`public_of`] makes a public key and [`publics_of`] those of four leaves, [`sign`] a signature, and
+//!   [`candidate`] computes from a message and a signature the key under which that signature would be
+//!   valid.
 //! - [`coef`] and [`checksum`] are the digits.
 //!
 //! Each call equals a definition of `specs/`, which restates the standard, one definition for all
@@ -18,6 +19,7 @@
 //! was taken before, and cannot fail.
 #![tactic(auto)]
 
+mod abreast;
 mod candidates;
 mod chains;
 mod digits;
@@ -28,6 +30,7 @@ mod seed;
 mod signatures;
 mod steps;
 
+pub use abreast::publics_of;
 pub use candidates::candidate;
 pub use digits::{checksum, coef};
 pub use kind::OtsKind;

@@ -1,19 +1,20 @@
-//! One step of four chains of a leaf at once (RFC 8554, sections 4.3, 4.5 and 4.6, and appendix A).
+//! One step of four chains at once, of one leaf or of four (RFC 8554, sections 4.3, 4.5 and 4.6, and
+//! appendix A).
 //!
 //! A value of a chain is eight words, whose bytes are the 32 that the standard hashes. They stand behind
 //! 23 bytes in the block of a step, so that a word of the block has three bytes of one word of the value
 //! and one of the next.
 ghost use Rattle.std.specs.Prelude.{◌≡◌, ℕ, ◌+◌, ◌/◌, ◌^◌, ◌<◌, ◌≤◌, slice_index};
 ghost use Rattle.sha2.specs.Sha256.{add32, word_at, digest_bytes, padded_message};
-ghost use Rattle.sha_lanes.specs.Lanes.{quad, vector, HaveBlocks};
+ghost use Rattle.sha_lanes.specs.Lanes.{quad, lane, vector, HaveBlocks};
 ghost use Rattle.lmots_core.specs.Chains.{chain_step};
 ghost use Rattle.lmots_core.specs.Running.{three_and_one, head_word, step_message};
 
-use sha_lanes::hash4;
+use sha_lanes::{hash_lanes, hash4};
 use std::simd::prelude::*;
 
 // A bit 1, which ends the 55 bytes of a step, and their length in bits; between the two stand zeros.
-const END_MARK: u32 = 0x8000_0000;
+pub(crate) const END_MARK: u32 = 0x8000_0000;
 
 const STEP_BITS: u32 = 440;
 
@@ -59,49 +60,60 @@ fn heads(chains: [u16; 4], places: [u8; 4], first: u32x4) -> u32x4
 
 // The word at byte `at` of the identifier, in each lane.
 #[inline(always)]
-fn id_words(id: &[u8; 16], at: usize) -> u32x4
+pub(crate) fn id_words(id: &[u8; 16], at: usize) -> u32x4
     requires { at + 4 ≤ 16 }
     ensures { result ≡ quad (λ _. word_at id.now at) }
 {
     u32x4::splat(u32::from_be_bytes([id[at], id[at + 1], id[at + 2], id[at + 3]]))
 }
 
-// The blocks of one step of four chains, word by word: 55 bytes each, with their padding.
+// The blocks of one step of four chains, word by word: 55 bytes each, with their padding. Lane `k` of
+// `leaves` has the number of the leaf of chain `chains[k]`, and lane `k` of `values` its value, which stands
+// at place `places[k]`.
 #[inline(always)]
 fn step_words(
     id: &[u8; 16],
-    q: u32,
+    leaves: u32x4,
     chains: [u16; 4],
     places: [u8; 4],
-    values: &[[u32; 8]; 4],
+    values: &[u32x4; 8],
 ) -> [u32x4; 16]
-    ensures { HaveBlocks result (λ k. padded_message (step_message id.now q (slice_index chains k) (slice_index places k) (digest_bytes (vector values.now k) 8))) }
+    ensures { HaveBlocks result (λ k. padded_message (step_message id.now (slice_index leaves k) (slice_index chains k) (slice_index places k) (digest_bytes (lane values.now k) 8))) }
 {
-    let a = column(values, 0);
-    let b = column(values, 1);
-    let c = column(values, 2);
-    let d = column(values, 3);
-    let e = column(values, 4);
-    let f = column(values, 5);
-    let g = column(values, 6);
-    let h = column(values, 7);
     [
         id_words(id, 0),
         id_words(id, 4),
         id_words(id, 8),
         id_words(id, 12),
-        u32x4::splat(q),
-        heads(chains, places, a),
-        straddled(a, b),
-        straddled(b, c),
-        straddled(c, d),
-        straddled(d, e),
-        straddled(e, f),
-        straddled(f, g),
-        straddled(g, h),
-        straddled(h, u32x4::splat(END_MARK)),
+        leaves,
+        heads(chains, places, values[0]),
+        straddled(values[0], values[1]),
+        straddled(values[1], values[2]),
+        straddled(values[2], values[3]),
+        straddled(values[3], values[4]),
+        straddled(values[4], values[5]),
+        straddled(values[5], values[6]),
+        straddled(values[6], values[7]),
+        straddled(values[7], u32x4::splat(END_MARK)),
         u32x4::splat(0),
         u32x4::splat(STEP_BITS),
+    ]
+}
+
+// Four values, word by word.
+#[inline(always)]
+fn columns(values: &[[u32; 8]; 4]) -> [u32x4; 8]
+    ensures { (k : ℕ) → k < 4 → digest_bytes (lane result k) 8 ≡ digest_bytes (vector values.now k) 8 }
+{
+    [
+        column(values, 0),
+        column(values, 1),
+        column(values, 2),
+        column(values, 3),
+        column(values, 4),
+        column(values, 5),
+        column(values, 6),
+        column(values, 7),
     ]
 }
 
@@ -115,5 +127,19 @@ pub(crate) fn step4(
 ) -> [[u32; 8]; 4]
     ensures { (k : ℕ) → k < 4 → digest_bytes (vector result k) 8 ≡ chain_step id.now q (slice_index chains k) (slice_index places k) (digest_bytes (vector values.now k) 8) }
 {
-    hash4(&step_words(id, q, chains, places, values))
+    hash4(&step_words(id, u32x4::splat(q), chains, places, &columns(values)))
+}
+
+// One step of chain `i` of four leaves, from place `j`: lane `k` of `leaves` has a leaf's number, and lane
+// `k` of `values` the value of its chain.
+pub(crate) fn step_leaves(
+    id: &[u8; 16],
+    leaves: u32x4,
+    i: u16,
+    j: u8,
+    values: &[u32x4; 8],
+) -> [u32x4; 8]
+    ensures { (k : ℕ) → k < 4 → digest_bytes (lane result k) 8 ≡ chain_step id.now (slice_index leaves k) i j (digest_bytes (lane values.now k) 8) }
+{
+    hash_lanes(&step_words(id, leaves, [i, i, i, i], [j, j, j, j], values))
 }

@@ -39,6 +39,10 @@ path_node ots height seed q i = node ots height seed i (sibling (leaf_count heig
 abbrev pub path : OtsKind → Height → OtsSeed → ℕ → List ℕ
 path ots height seed q = joined (path_node ots height seed q) (levels height)
 
+-- of so many leaves the first n stand in the list, with these one-time public keys
+abbrev pub HaveLeaves : List ℕ → ℕ → (ℕ → List ℕ) → List (List ℕ) → ℕ → Type 0
+HaveLeaves id leaves keys nodes n = (q : ℕ) → q < n → slice_index_or nodes (leaves + q) [] ≡ leaf_node id (leaves + q) (keys q)
+
 -- T[r] stands at place r of the list, for each r from 1 on
 pub record IsTree (ots : OtsKind) (height : Height) (seed : OtsSeed) (nodes : List (List ℕ)) : Type 0 where
   pub sized : length nodes ≡ 2 * leaf_count height

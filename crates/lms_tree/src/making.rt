@@ -1,26 +1,45 @@
 //! Making a key: the tree from its leaves to its root (RFC 8554, section 5.3 and appendix A).
-ghost use Rattle.std.specs.Prelude.{ℕ, ◌≡◌, ◌+◌, ◌*◌, ◌^◌, ◌<◌, ◌≤◌, [], length, slice_index_or, IfOk};
+ghost use Rattle.std.specs.Prelude.{ℕ, List, ◌≡◌, ◌+◌, ◌*◌, ◌^◌, ◌<◌, ◌≤◌, [], length, slice_index_or, IfOk};
 ghost use Rattle.lmots_core.specs.OneTime.{public_key};
 ghost use Rattle.lms_tree.specs.Heights.{levels, leaf_count};
-ghost use Rattle.lms_tree.specs.Tree.{leaf_node, inner_node, IsTree};
+ghost use Rattle.lms_tree.specs.Tree.{leaf_node, inner_node, HaveLeaves, IsTree};
 ghost use Rattle.lms_tree.specs.Keys.{TreeKey};
 
 use crate::heights::Height;
 use crate::key::Key;
 use crate::nodes::{inner_node, leaf_node};
 use fab_rows::NoMemory;
-use lmots_core::{OtsKind, OtsSeed, public_of};
+use lmots_core::{OtsKind, OtsSeed, public_of, publics_of};
 use std::alloc::Global;
 
-// Fills in the leaves of a tree.
+// Sets leaf `q` of a tree with so many leaves to the one with this one-time public key.
+fn set_leaf(id: &[u8; 16], leaves: u32, q: u32, key: &[u8; 32], nodes: &mut [[u8; 32]])
+    requires few { leaves < 2 ^ 31 }
+    requires within { q < leaves }
+    requires sized { length nodes.old ≡ 2 * leaves }
+    ensures { (keys : ℕ → List ℕ) → key.now ≡ keys q → HaveLeaves id.now leaves keys nodes.old q → HaveLeaves id.now leaves keys nodes.new (q + 1) }
+{
+    let r = leaves + q;
+    nodes[r as usize] = leaf_node(id, r, key);
+}
+
+// Fills in the leaves of a tree: by fours, and what is left over one by one.
 fn fill_leaves(seed: &OtsSeed, ots: OtsKind, leaves: u32, nodes: &mut [[u8; 32]])
     requires few { leaves < 2 ^ 31 }
     requires sized { length nodes.old ≡ 2 * leaves }
-    ensures { (q : ℕ) → q < leaves → slice_index_or nodes.new (leaves + q) [] ≡ leaf_node seed.now.id (leaves + q) (public_key ots seed.now q) }
+    ensures { HaveLeaves seed.now.id leaves (public_key ots seed.now) nodes.new leaves }
 {
-    for q in 0..leaves {
-        let r = leaves + q;
-        nodes[r as usize] = leaf_node(&seed.id, r, &public_of(seed, q, ots));
+    'fours: for g in 0..leaves / 4 {
+        let q = 4 * g;
+        let keys = publics_of(seed, [q, q + 1, q + 2, q + 3], ots);
+        set_leaf(&seed.id, leaves, q, &keys[0], nodes);
+        set_leaf(&seed.id, leaves, q + 1, &keys[1], nodes);
+        set_leaf(&seed.id, leaves, q + 2, &keys[2], nodes);
+        set_leaf(&seed.id, leaves, q + 3, &keys[3], nodes);
+    }
+    'rest: for q in 4 * (leaves / 4)..leaves {
+        let key = public_of(seed, q, ots);
+        set_leaf(&seed.id, leaves, q, &key, nodes);
     }
 }
 

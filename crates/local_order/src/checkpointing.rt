@@ -198,7 +198,7 @@ fn empty_first(places: &mut [Option<PreparedCert>], count: usize)
 }
 
 /// Empties the first so many places, and puts them last.
-fn leave_places(places: &mut Vec<Option<PreparedCert>>, count: u64)
+pub(crate) fn leave_places(places: &mut Vec<Option<PreparedCert>>, count: u64)
     ensures { places.new.items ≡ moved_places count places.old.items }
 {
     let count = count.min(places.len() as u64) as usize;

@@ -143,13 +143,15 @@ impl Alone {
     }
 }
 
-/// Adds the messages of what was brought about to those that were put, and gives the batch of its last certificate, if it has one.
+/// Adds the messages of what was brought about to those that were put, and gives the batch of its last certificate, if it has one. No call here
+/// leaves the view or enters one.
 fn sort(put: &mut VecDeque<Message>, outs: Outs) -> Result<Option<Batch>, NoMemory> {
     let mut committed = None;
     for out in outs.into_vec() {
         match out {
             Out::Put(item) => put.push_back(item.message)?,
             Out::Certified(cert) => committed = Some(cert.batch),
+            Out::Clear | Out::Entered(_) => {}
         }
     }
     Ok(committed)

@@ -5,6 +5,7 @@ use Rattle.fab_base.specs.declared.ids.ReplicaId.{ReplicaId}
 use Rattle.fab_rules.specs.Lists.{In}
 use Rattle.fab_rules.specs.Format.{fits}
 use Rattle.run_words.specs.Keyed.{is_same}
+use Rattle.run_words.specs.Journal.{Maker}
 use Rattle.run_words.specs.declared.logs.Entry.{Entry}
 use Rattle.run_words.specs.declared.logs.Parcel.{Parcel}
 
@@ -69,6 +70,11 @@ abbrev pub sent_with : List ℕ → Draft → List Parcel
 sent_with back draft = map (ended_parcel back) draft.parcels
 
 -- ---- journals
+
+-- what a replica sends is neither lost nor repeated, and it sends as a correct one does
+pub record SendsPlainly (m : Maker) : Type 0 where
+  pub lossless : m.losses ≡ []
+  pub correct : m.fault ≡ None
 
 -- what was sent has a spelling
 abbrev pub IsSpelled : Entry → Type 0

@@ -4,7 +4,7 @@ ghost use Rattle.fab_rules.specs.Format.{fits};
 ghost use Rattle.fab_rules.specs.Spelling.{spelling_of};
 ghost use Rattle.run_words.specs.Journal as journals;
 ghost use Rattle.run_words.specs.Journal.{Maker};
-ghost use Rattle.parcel_post.specs.Posting.{numbered, raised_by, AreSpelled, IsSpelled};
+ghost use Rattle.parcel_post.specs.Posting.{numbered, raised_by, SendsPlainly, AreSpelled, IsSpelled};
 ghost use Rattle.parcel_post.specs.Walking.{walked};
 
 use crate::clock::ticked;
@@ -53,19 +53,21 @@ impl Walk {
         match entry {
             Entry::Heard(origin, _) => self.clock = ticked(self.clock, *origin)?,
             Entry::Sent(item) => self.put(alloc, item)?,
-            Entry::Proposed | Entry::Nudged | Entry::Executed | Entry::Marked => {}
+            Entry::Proposed | Entry::Nudged | Entry::Executed | Entry::Marked | Entry::TimedOut =>
+                {}
         }
         Ok(())
     }
 }
 
 /// The parcels that a replica with this journal put, in the order in which it put them: for each item that it sent, whose message has a
-/// spelling, a copy for each receiver, numbered for each receiver from 0 (ours), at the time of the replica's clock (Lamport's rule). It
-/// depends on the journal alone, and not on what the replica was made with. It fails only where memory is refused, where 2^64 - 1 parcels
-/// were put to a receiver, or where a parcel was heard whose time is 2^64 - 1, the last value of a `u64`.
+/// spelling, a copy for each receiver, numbered for each receiver from 0 (ours), at the time of the replica's clock (Lamport's rule). Nothing
+/// is lost or repeated, and the replica sends as a correct one does; beyond that they depend on the journal alone, and not on what the replica
+/// was made with. It fails only where memory is refused, where 2^64 - 1 parcels were put to a receiver, or where a parcel was heard whose time
+/// is 2^64 - 1, the last value of a `u64`.
 pub fn parcels_of(alloc: Global, journal: &[Entry]) -> Result<Parcels, NoMemory>
     requires { AreSpelled journal.now }
-    ensures { IfOk result (λ parcels. (m : Maker) → parcels ≡ journals.parcels_of m journal.now) }
+    ensures { IfOk result (λ parcels. (m : Maker) → SendsPlainly m → parcels ≡ journals.parcels_of m journal.now) }
 {
     let mut walk = Walk {
         clock: 0,

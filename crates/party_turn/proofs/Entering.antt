@@ -29,6 +29,7 @@ next_by m journal Act.Nudge h = entry_next m journal Mover.Nudge h
 next_by m journal Act.Emit h = entry_next m journal Mover.Emit h
 next_by m journal Act.Execute h = entry_next m journal Mover.Execute h
 next_by m journal Act.Checkpoint h = entry_next m journal Mover.Checkpoint h
+next_by m journal Act.Timeout h = entry_next m journal Mover.Timeout h
 
 grown_by : (m : Maker) (journal : List Entry) (act : Act) (e : Entry) (b : Bool) → would m journal act ≡ b
     → journal ++ e ∷ [] ≡ cond b (journal ++ made_by m journal act ∷ []) journal
@@ -63,6 +64,7 @@ sound_by m journal Act.Nudge f s = entry_sound m journal Mover.Nudge
 sound_by m journal Act.Emit f s = entry_sound m journal Mover.Emit
 sound_by m journal Act.Execute f s = entry_sound m journal Mover.Execute
 sound_by m journal Act.Checkpoint f s = entry_sound m journal Mover.Checkpoint
+sound_by m journal Act.Timeout f s = entry_sound m journal Mover.Timeout
 
 entered_by : (m : Maker) (journal : List Entry) (act : Act) (told : Told) (now : List Entry) (b : Bool) → IsFor m act → IsSoundAct act
     → now ≡ cond b (journal ++ made_by m journal act ∷ []) journal

@@ -2,3 +2,4 @@ pub mod Outs
 pub mod Machines
 mod Noting
 mod Within
+mod Missing

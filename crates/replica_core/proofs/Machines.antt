@@ -1,18 +1,45 @@
 -- What a step keeps, as the laws of the machine say it.
-use Rattle.std.proofs.Common.{◌≡◌, Bool, false, List, Result, Ok, Err, refl, sym, subst, ◌∙◌}
+use Rattle.std.proofs.Common.{◌≡◌, Bool, false, List, [], Result, Ok, Err, refl, sym, ap, subst, ◌∙◌}
 use Rattle.std.specs.Prelude.{OnOk, is_err}
 use Rattle.std.specs.Bool.{IsTrue}
-use Rattle.fab_base.specs.Limits.{IsWithinLimits}
+use Rattle.fab_base.specs.Limits.{Roster, IsWithinLimits}
 use Rattle.fab_base.specs.Roster.{is_replica}
+use Rattle.fab_base.specs.declared.ids.ReplicaId.{ReplicaId}
+use Rattle.fab_base.specs.declared.answers.Item.{Item}
 use Rattle.fab_rules.specs.Diary.{Entry}
+use Rattle.remote_view.specs.Pleading as pleas
+use Rattle.fab_machine.specs.State.{Rounds, fresh_local, fresh_rounds}
 use Rattle.fab_machine.specs.Step.{Event, step}
 use Rattle.fab_machine.specs.Diaries.{MayCome, diary_after}
 use Rattle.fab_machine.specs.Relation.{AreRelated}
 use Rattle.fab_machine.proofs.Members.{is_member}
-use Rattle.fab_machine.proofs.ReplicaStates.{step_state}
+use Rattle.fab_machine.proofs.ReplicaStates.{starts_replica, step_state}
 use Rattle.fab_machine.proofs.Steps.{step_keeps}
-use Rattle.replica_core.specs.Inside.{Assembly, IsSame, with_state}
+use Rattle.view_order.specs.Views.{Views}
+use Rattle.round_exec.specs.Book.{Book}
+use Rattle.cluster_talk.specs.Talking.{Talking}
+use Rattle.replica_core.specs.Inside.{Assembly, IsSame, seen, with_state}
 use Rattle.replica_core.specs.Cores.{Machine, IsCore}
+
+-- parts of which nothing was heard
+pub fresh_core : (r : Roster) (me : ReplicaId) (o : Views) (b : Book) (t : Talking) (waiting : List Item) → IsWithinLimits r → IsTrue (is_replica r me)
+    → o ≡ record { roster = r; me = me; local = fresh_local r me; changes = []; shut = false } → b.rounds ≡ fresh_rounds
+    → t ≡ record { roster = r; me = me; pleading = pleas.fresh r me; askers = [] } → waiting ≡ [] → IsCore (seen o b t waiting) false
+fresh_core r me o b t waiting limits member order rounds talk none =
+    let fresh_order : Views = record { roster = r; me = me; local = fresh_local r me; changes = []; shut = false } in
+    let book : Rounds → Book = λ x. record { clusters = b.clusters; clients = b.clients; rounds = x } in
+    let fresh_talk : Talking = record { roster = r; me = me; pleading = pleas.fresh r me; askers = [] } in
+    let whole : seen o b t waiting ≡ seen fresh_order (book fresh_rounds) fresh_talk [] =
+    ap (λ x. seen x b t waiting) order
+    ∙ (ap (λ x. seen fresh_order (book x) t waiting) rounds
+    ∙ (ap (λ x. seen fresh_order (book fresh_rounds) x waiting) talk ∙ ap (seen fresh_order (book fresh_rounds) fresh_talk) none)) in
+    let is : IsCore (seen fresh_order (book fresh_rounds) fresh_talk []) false = record {
+      limits = limits;
+      member = member;
+      whole = λ h. starts_replica r me limits (is_member r me limits member);
+      calm = λ h. refl;
+    } in
+    subst (λ p. IsCore p false) (sym whole) is
 
 -- an event came to this and the replica stays open, or memory was refused and it is shut
 pub core_after : {T E : Type 0} (old new : Assembly) (e : Event) (told : Result T E) (shut : Bool) → IsCore old false → OnOk told (MayCome old.roster e)

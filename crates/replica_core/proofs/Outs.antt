@@ -2,53 +2,74 @@
 use Rattle.std.proofs.Common.{◌≡◌, ℕ, zero, suc, ◌≤◌, ◌<◌, true, ◌&&◌, nat_eq, nat_le, nat_lt, List, [], ◌∷◌, length, inl, inr, refl, sym, ap, subst, ◌∙◌, arith}
 use Rattle.std.specs.Bool.{IsTrue}
 use Rattle.std.specs.Prelude.{slice_index}
-use Rattle.fab_base.specs.Limits.{Roster}
-use Rattle.fab_base.specs.Roster.{home_of}
+use Rattle.fab_base.specs.Limits.{Roster, IsWithinLimits}
+use Rattle.fab_base.specs.Roster.{home_of, is_replica}
+use Rattle.fab_base.specs.declared.ids.ReplicaId.{ReplicaId}
 use Rattle.fab_base.specs.declared.requests.Request.{Request}
 use Rattle.fab_base.specs.declared.messages.CommitCert.{CommitCert}
+use Rattle.fab_base.specs.declared.messages.Message.{Message}
 use Rattle.fab_base.proofs.Tests.{and_both, same, is_at_most, is_below}
 use Rattle.fab_rules.specs.Lists.{In}
 use Rattle.fab_rules.specs.Format.{batch_fits}
-use Rattle.fab_rules.specs.Shape.{is_batch_of}
+use Rattle.fab_rules.specs.Shape.{IsShaped, is_batch_of}
 use Rattle.fab_rules.proofs.Lists.{each_passes, all_pass}
 use Rattle.fab_machine.specs.ReplicaState.{IsKeptCertificate}
 use Rattle.fab_machine.specs.Rounds.{round_of}
-use Rattle.fab_machine.specs.Step.{after_out, after_outs}
+use Rattle.fab_base.specs.declared.answers.Answer.{Answer}
+use Rattle.fab_machine.specs.State.{Local}
+use Rattle.fab_machine.specs.Changing.{asked}
+use Rattle.fab_machine.specs.Joining.{after_out, after_outs}
 use Rattle.fab_machine.specs.declared.outs.Out.{Out}
-use Rattle.round_exec.specs.Book.{are_clients, is_keepable}
-use Rattle.replica_core.specs.Inside.{Assembly, with_state}
+use Rattle.fab_machine.proofs.Members.{is_member}
+use Rattle.fab_machine.proofs.Shares.{share_cluster, share_may}
+use Rattle.view_order.specs.Views.{Views}
+use Rattle.round_exec.specs.Book.{Book, are_clients, is_keepable}
+use Rattle.cluster_talk.specs.Talking.{Talking}
+use Rattle.replica_core.specs.Inside.{Assembly, AreParts, with_state}
 
 -- ---- one after another
 
 -- what was handed over up to these has been taken over
 pub record TakenOver (old now : Assembly) (outs rest : List Out) : Type 0 where
   pub beside : now ≡ with_state old now.state
-  pub whole : after_outs now.state rest ≡ after_outs old.state outs
+  pub whole : after_outs old.roster old.me now.state rest ≡ after_outs old.roster old.me old.state outs
   pub inside : (k : CommitCert) → In (Out.Certified k) rest → In (Out.Certified k) outs
 
 pub taken_first : (old : Assembly) (outs rest : List Out) → rest ≡ outs → TakenOver old old outs rest
 taken_first old outs rest e = record {
   beside = refl;
-  whole = ap (after_outs old.state) e;
+  whole = ap (after_outs old.roster old.me old.state) e;
   inside = λ k h. subst (In (Out.Certified k)) e h;
 }
 
-pub taken_more : (old now later : Assembly) (outs rest more : List Out) (out : Out) → rest ≡ out ∷ more → later ≡ with_state now (after_out now.state out)
-    → TakenOver old now outs rest → TakenOver old later outs more
+pub taken_more : (old now later : Assembly) (outs rest more : List Out) (out : Out) → rest ≡ out ∷ more
+    → later ≡ with_state now (after_out now.roster now.me now.state out) → TakenOver old now outs rest → TakenOver old later outs more
 taken_more old now later outs rest more out e is h =
-    let state : later.state ≡ after_out now.state out = ap (λ a. a.state) is in
+    let r = old.roster in
+    let me = old.me in
+    let by : later ≡ with_state now (after_out r me now.state out) =
+    is ∙ (ap (λ x. with_state now (after_out x now.me now.state out)) (ap (λ a. a.roster) h.beside)
+    ∙ ap (λ i. with_state now (after_out r i now.state out)) (ap (λ a. a.me) h.beside)) in
+    let state : later.state ≡ after_out r me now.state out = ap (λ a. a.state) by in
     record {
-      beside = is ∙ (ap (λ a. with_state a (after_out now.state out)) h.beside ∙ ap (with_state old) (sym state));
-      whole = ap (λ s. after_outs s more) state ∙ (ap (after_outs now.state) (sym e) ∙ h.whole);
+      beside = by ∙ (ap (λ a. with_state a (after_out r me now.state out)) h.beside ∙ ap (with_state old) (sym state));
+      whole = ap (λ s. after_outs r me s more) state ∙ (ap (after_outs r me now.state) (sym e) ∙ h.whole);
       inside = λ k i. h.inside k (subst (In (Out.Certified k)) (sym e) (inr i));
     }
 
-pub taken_all : (old now : Assembly) (outs rest : List Out) → rest ≡ [] → TakenOver old now outs rest → now ≡ with_state old (after_outs old.state outs)
-taken_all old now outs rest e h = h.beside ∙ ap (with_state old) (ap (after_outs now.state) (sym e) ∙ h.whole)
+pub taken_all : (old now : Assembly) (outs rest : List Out) → rest ≡ [] → TakenOver old now outs rest
+    → now ≡ with_state old (after_outs old.roster old.me old.state outs)
+taken_all old now outs rest e h = h.beside ∙ ap (with_state old) (ap (after_outs old.roster old.me now.state) (sym e) ∙ h.whole)
 
 pub none_left : (outs : List Out) → length outs ≡ 0 → outs ≡ []
 none_left [] e = refl
 none_left (x ∷ outs) e = absurd (omega (arith, e))
+
+-- asking for a view forms no certificate
+pub asks_without : (r : Roster) (me : ReplicaId) (l : Local) (view : ℕ) (answer : Answer) (k : CommitCert) → In (Out.Certified k) (asked r me l view answer).outs → ⊥
+asks_without r me l view answer k (inl e) = cc
+asks_without r me l view answer k (inr (inl e)) = cc
+asks_without r me l view answer k (inr (inr none)) = none
 
 -- the first of them
 pub is_first_out : (k : CommitCert) (out : Out) (rest more : List Out) → rest ≡ out ∷ more → out ≡ Out.Certified k → In (Out.Certified k) rest
@@ -76,6 +97,18 @@ keepable r k is =
     (and_both (nat_le 1 k.cluster) _ (is_at_most 1 k.cluster c.cluster_from) (is_at_most k.cluster (length r.sizes) c.cluster_upto))
     (and_both (nat_le 1 (round_of k)) _ (is_at_most 1 (round_of k) c.round_from)
     (and_both (batch_fits k.batch) _ c.fits (clients_by_home r k.cluster k.batch c.cluster_from is.homes)))
+
+-- so it may be kept among the rounds of the parts
+pub keepable_in : (me : ReplicaId) (o : Views) (b : Book) (t : Talking) (r : Roster) (k : CommitCert) → AreParts me o b t → o.roster ≡ r → IsKeptCertificate r k
+    → IsTrue (is_keepable b.clusters b.clients k)
+keepable_in me o b t r k parts roster is =
+    subst (λ n. IsTrue (is_keepable n b.clients k)) (sym (parts.clusters ∙ ap (λ x. length x.sizes) roster))
+    (subst (λ n. IsTrue (is_keepable (length r.sizes) n k)) (sym (parts.clients ∙ ap (λ x. length x.homes) roster)) (keepable r k is))
+
+-- and so may that of a share
+pub share_kept : (r : Roster) (me : ReplicaId) (k : CommitCert) → IsWithinLimits r → IsTrue (is_replica r me) → IsShaped r (Message.Share k)
+    → IsKeptCertificate r k
+share_kept r me k limits known fine = share_may r k fine ((is_member r me limits known).each_some k.cluster (share_cluster r k fine))
 
 -- ---- the certificates that are handed over
 

@@ -4,7 +4,7 @@ use Rattle.fab_base.specs.Limits.{Roster, IsWithinLimits}
 use Rattle.fab_base.specs.Roster.{is_replica}
 use Rattle.fab_base.specs.declared.ids.ReplicaId.{ReplicaId}
 use Rattle.fab_rules.specs.Diary.{Entry}
-use Rattle.fab_machine.specs.State.{Replica}
+use Rattle.fab_machine.specs.State.{Replica, Stepped}
 use Rattle.fab_machine.specs.ReplicaState.{IsReplicaState}
 use Rattle.fab_machine.specs.Step as machine
 use Rattle.fab_machine.specs.Step.{step, moves}
@@ -50,6 +50,7 @@ event_of Event.Nudge = machine.Event.Nudge
 event_of (Event.Emit sig) = machine.Event.Emit sig
 event_of Event.Execute = machine.Event.Execute
 event_of Event.Checkpoint = machine.Event.Checkpoint
+event_of Event.Timeout = machine.Event.Timeout
 
 -- what is heard is shaped for these members
 abbrev pub IsFor : Roster → Event → Type 0
@@ -67,6 +68,7 @@ event_by Mover.Nudge = machine.Event.Nudge
 event_by Mover.Emit = machine.Event.Emit []
 event_by Mover.Execute = machine.Event.Execute
 event_by Mover.Checkpoint = machine.Event.Checkpoint
+event_by Mover.Timeout = machine.Event.Timeout
 
 -- whether an event would make an entry in the journal
 abbrev pub moves_by : Machine → Mover → Bool
@@ -75,7 +77,7 @@ moves_by m mover = not m.shut && moves m.roster m.me m.state (event_by mover)
 -- ---- what a step keeps
 
 -- the answer and the state are those of the machine of a replica
-abbrev pub stepped : Machine → Event → machine.Stepped
+abbrev pub stepped : Machine → Event → Stepped
 stepped m e = step m.roster m.me m.state (event_of e)
 
 -- every diary that was related to the state before is related after it, with what the event adds

@@ -9,7 +9,7 @@ ghost use Rattle.replica_core.specs.Inside.{IsSame, with_state};
 use crate::NoMemory;
 use crate::parts::Parts;
 use fab_base::Answer;
-use local_order::LocalTry;
+use view_order::ViewTry;
 
 impl Parts {
     /// Votes for the first round for which a Checkpoint is due, or else moves the low mark to the greatest stable round that was executed.
@@ -20,7 +20,6 @@ impl Parts {
         requires whole { IsReplicaState self.old.roster self.old.me self.old.state }
         ensures answer { IfOk result (λ answer. answer ≡ (step self.old.roster self.old.me self.old.state Event.Checkpoint).answer) }
         ensures state { OnOk result (self.new ≡ with_state self.old (step self.old.roster self.old.me self.old.state Event.Checkpoint).state) }
-        ensures live { OnOk result (self.old.stuck ≡ false) }
         ensures same { IsSame self.old self.new }
     {
         let told = self.order.checkpoint()?;
@@ -32,6 +31,6 @@ impl Parts {
         requires { self.now.stuck ≡ false }
         ensures { result ≡ can_checkpoint self.now.roster self.now.me self.now.state.local }
     {
-        self.order.can(LocalTry::Checkpoint)
+        self.order.can(ViewTry::Checkpoint)
     }
 }

@@ -20,6 +20,8 @@ pub enum Event {
     Execute,
     /// A Checkpoint may be due, or the low mark may move.
     Checkpoint,
+    /// The replica waited long enough: a view may be asked for, or a certificate of another cluster reported as missing.
+    Timeout,
 }
 
 /// The events that may come at any time: of each it can be asked whether it would do anything.
@@ -35,4 +37,6 @@ pub enum Mover {
     Execute,
     /// [`Event::Checkpoint`].
     Checkpoint,
+    /// [`Event::Timeout`].
+    Timeout,
 }

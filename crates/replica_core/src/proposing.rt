@@ -8,7 +8,7 @@ ghost use Rattle.replica_core.specs.Inside.{IsSame, with_state};
 use crate::NoMemory;
 use crate::parts::Parts;
 use fab_base::Answer;
-use local_order::LocalTry;
+use view_order::ViewTry;
 
 impl Parts {
     /// Whether another cluster's certificate of the round is kept that is the next one to be proposed.
@@ -23,7 +23,6 @@ impl Parts {
         requires { IsReplicaState self.old.roster self.old.me self.old.state }
         ensures answer { IfOk result (λ answer. answer ≡ (propose_step self.old.roster self.old.me self.old.state nudged).answer) }
         ensures state { OnOk result (self.new ≡ with_state self.old (propose_step self.old.roster self.old.me self.old.state nudged).state) }
-        ensures live { OnOk result (self.old.stuck ≡ false) }
         ensures same { IsSame self.old self.new }
     {
         let known = self.knows_others();
@@ -37,6 +36,6 @@ impl Parts {
         ensures { result ≡ makes_entry (propose_step self.now.roster self.now.me self.now.state nudged).answer }
     {
         let known = self.knows_others();
-        self.order.can(LocalTry::Propose { nudged, known })
+        self.order.can(ViewTry::Propose { nudged, known })
     }
 }

@@ -12,8 +12,8 @@ use fab_base::{Answer, Bytes, Item, StableVotes};
 use round_exec::Rounds;
 use std::marker::Model;
 
-/// A replica (PBFT and GeoBFT): local ordering in its cluster, the rounds of all clusters, and an outbox. It is a value: an event goes in,
-/// one answer comes out. Contracts see the members, the replica's id, its state, and whether it was shut: where memory is refused in the
+/// A replica (PBFT and GeoBFT): ordering in its cluster across views, the rounds of all clusters, its talk with them, and an outbox. It is a
+/// value: an event goes in, one answer comes out. Contracts see the members, the replica's id, its state, and whether it was shut: where memory is refused in the
 /// middle of a step, something may be counted and what follows from it not done, so from then on every step answers `NoMemory`.
 #[derive(Drop)]
 pub struct Core {
@@ -42,15 +42,19 @@ impl Core {
 
     /// One step: an event, and what the replica answers. A message that is heard is shaped for the replica's members.
     ///
-    /// - `Hear` answers `Heard` with what came of the message. A kind of which nothing is done yet is `Stray`.
+    /// - `Hear` answers `Heard` with what came of the message. A reply is `Stray`.
     /// - `Batch` and `Nudge` answer the first of these that holds: `Changing`, `NotPrimary`, `WindowFull`, `Proposed`, `Waiting`.
     /// - `Emit` answers `Sent` with the first item of the outbox, or `Nothing` exactly where none waits.
     /// - `Execute` answers `Executed` with the next round, or `NotYet` with the first cluster whose certificate of it is missing.
     /// - `Checkpoint` (PBFT, section 4.3) answers the first of these that holds: `Voted`, with the first round for which a Checkpoint is due
     ///   and none was put; `Moved`, with the new low mark, the greatest stable round above the old one that was executed; `NotDue`, with
     ///   the next round for which a Checkpoint will be due. Where the mark moves, messages that were ahead or far are considered again.
+    /// - `Timeout` (PBFT, section 4.4, and GeoBFT, remote view change) answers the first of these that holds: `Behind`, with the low mark,
+    ///   where rounds up to it weren't executed here; `Asked`, with the view above the wanted one, where the own cluster's certificate of the
+    ///   next round isn't kept and something is due; `Missed`, with the first cluster whose certificate of the next round is missing, where
+    ///   the own one is kept and no Drvc of this target, round and count was said; `Calm`.
     ///
-    /// `Heard`, `Proposed`, `Sent`, `Executed`, `Voted` and `Moved` make an entry in a journal; the others change nothing.
+    /// `Heard`, `Proposed`, `Sent`, `Executed`, `Voted`, `Moved`, `Asked` and `Missed` make an entry in a journal; the others change nothing.
     ///
     /// It fails only where memory is refused now or was before, and then the replica is shut. `Emit` takes no memory.
     ///
@@ -77,7 +81,7 @@ impl Core {
     }
 
     /// Whether the event would make an entry in a journal, want of memory aside: true exactly where it would answer `Proposed`, `Sent`,
-    /// `Executed`, `Voted` or `Moved`, and never of a replica that is shut. Takes no memory.
+    /// `Executed`, `Voted`, `Moved`, `Asked` or `Missed`, and never of a replica that is shut. Takes no memory.
     pub fn moves(&self, mover: Mover) -> bool
         ensures { result ≡ moves_by self.now mover }
     {
@@ -90,6 +94,7 @@ impl Core {
             Mover::Emit => self.parts.first().is_some(),
             Mover::Execute => self.parts.can_execute(),
             Mover::Checkpoint => self.parts.can_checkpoint(),
+            Mover::Timeout => self.parts.can_time_out(),
         }
     }
 

@@ -34,6 +34,7 @@ impl Parts {
             Event::Emit { sig } => Ok(self.emit(sig)),
             Event::Execute => self.execute(),
             Event::Checkpoint => self.checkpoint(),
+            Event::Timeout => self.time_out(),
         }
     }
 }

@@ -45,6 +45,10 @@ checkpoint : (m : Maker) (journal : List Entry) → IsBy m journal Act.Checkpoin
 unfolding moves
 checkpoint m journal = record { makes = refl; entry = refl; told = refl }
 
+timeout : (m : Maker) (journal : List Entry) → IsBy m journal Act.Timeout machine.Event.Timeout Entry.TimedOut
+unfolding moves
+timeout m journal = record { makes = refl; entry = refl; told = refl }
+
 module _ {S : Type 0} {E : Type 0} (limit made : S → ℕ) (gives : S → ℕ → List ℕ → List ℕ) (old now : Keeper S) where
   abbrev HaveActed : Act → Result Told E → Type 0
   HaveActed act t = IfOk t (λ told. HasActed limit made gives old act told now)
@@ -121,3 +125,10 @@ module _ {S : Type 0} {E : Type 0} (limit made : S → ℕ) (gives : S → ℕ �
       → HaveActed act t
   checkpoint_acted act entry r t is made_is told =
       acted_as act Act.Checkpoint machine.Event.Checkpoint Entry.Marked entry is (checkpoint (maker_of limit gives old) old.journal.items) made_is r t told
+
+  pub timeout_acted : (act : Act) (entry : Entry) (r : Result Answer E) (t : Result Told E) → act ≡ Act.Timeout → entry ≡ Entry.TimedOut → t ≡ told_by r
+      → IfOk r (λ answer. answer ≡ answer_to (maker_of limit gives old) old.journal.items machine.Event.Timeout)
+      → IfOk r (λ answer. Moves limit made gives old entry (makes_entry answer) now)
+      → HaveActed act t
+  timeout_acted act entry r t is made_is told =
+      acted_as act Act.Timeout machine.Event.Timeout Entry.TimedOut entry is (timeout (maker_of limit gives old) old.journal.items) made_is r t told

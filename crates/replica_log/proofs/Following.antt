@@ -7,11 +7,11 @@ use Rattle.fab_base.specs.declared.ids.ReplicaId.{ReplicaId}
 use Rattle.fab_machine.specs.State.{Replica, fresh}
 use Rattle.fab_machine.specs.Step.{step}
 use Rattle.fab_machine.specs.Diaries.{MayCome, state_from, state_of}
-use Rattle.bft_verify.proofs.Soundness.{shaped_from_sound}
 use Rattle.replica_core.specs.Cores.{Machine, with_state}
 use Rattle.run_words.specs.declared.logs.Entry.{Entry}
 use Rattle.run_words.specs.declared.logs.Trace.{Trace}
 use Rattle.run_words.specs.Journal.{Maker, event_of, state, AreSound}
+use Rattle.run_words.proofs.Sending.{may_be}
 use Rattle.replica_log.specs.Replayed.{state_after, core_after}
 
 -- what the machine of a replica is after these entries
@@ -48,18 +48,10 @@ replays_all members me journal k core m ge is r i =
     ∙ ap (λ (x : Roster). made (state_of x me (map event_of journal))) (sym r)
     ∙ ap (λ (x : ReplicaId). made (state_of m.roster x (map event_of journal))) (sym i)
 
-pub may_come : (m : Maker) (e : Entry) → AreSound m (e ∷ []) → MayCome m.roster (event_of e)
-may_come m (Entry.Heard origin x) h = shaped_from_sound m.roster m.ring x h.0
-may_come m Entry.Proposed h = tt
-may_come m Entry.Nudged h = tt
-may_come m (Entry.Sent item) h = tt
-may_come m Entry.Executed h = tt
-may_come m Entry.Marked h = tt
-
 sound_at : (m : Maker) (journal : List Entry) (k : ℕ) (d : Entry) → k < length journal → AreSound m journal
     → MayCome m.roster (event_of (get_or journal k d))
 sound_at m [] k d lt h = absurd (omega arith)
-sound_at m (e ∷ rest) zero d lt h = may_come m e (h.0, tt)
+sound_at m (e ∷ rest) zero d lt h = may_be m e h.0
 sound_at m (e ∷ rest) (suc k) d lt h = sound_at m rest k d (omega arith) h.1
 
 -- the event of the entry at a place may come

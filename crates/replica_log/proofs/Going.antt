@@ -12,7 +12,7 @@ use Rattle.replica_core.specs.Cores as cores
 use Rattle.replica_core.specs.declared.events.Event.{Event}
 use Rattle.run_words.specs.declared.logs.Entry.{Entry}
 use Rattle.run_words.specs.declared.logs.Parcel.{Parcel}
-use Rattle.run_words.specs.Journal.{Maker, Walk, event_of, state, tick, added, signed_by, walk, parcels_of, moves, IsNext, IsHeardSound}
+use Rattle.run_words.specs.Journal.{Maker, Walk, event_of, state, tick, copies, added, stated_by, signed_beside, signed_by, walk, parcels_of, moves, IsNext, IsHeardSound}
 use Rattle.replica_log.specs.Entering.{has_entry}
 use Rattle.parcel_post.specs.Posting.{Counts, AreNumbers}
 use Rattle.replica_log.specs.Keeping.{IsKept, core_after, maker_of, IsLive, Moves, IsMoving}
@@ -23,34 +23,36 @@ use Rattle.replica_log.proofs.Stepping.{IsBeside}
 -- ---- such an entry
 
 moving_cases : (P : Event → Entry → Type 0) → P Event.Batch Entry.Proposed → P Event.Nudge Entry.Nudged → P Event.Execute Entry.Executed
-    → P Event.Checkpoint Entry.Marked
+    → P Event.Checkpoint Entry.Marked → P Event.Timeout Entry.TimedOut
     → (event : Event) (e : Entry) → IsMoving event e → P event e
-moving_cases P a b c d Event.Batch Entry.Proposed h = a
-moving_cases P a b c d Event.Nudge Entry.Nudged h = b
-moving_cases P a b c d Event.Execute Entry.Executed h = c
-moving_cases P a b c d Event.Checkpoint Entry.Marked h = d
-moving_cases P a b c d event e h = absurd h
+moving_cases P a b c d f Event.Batch Entry.Proposed h = a
+moving_cases P a b c d f Event.Nudge Entry.Nudged h = b
+moving_cases P a b c d f Event.Execute Entry.Executed h = c
+moving_cases P a b c d f Event.Checkpoint Entry.Marked h = d
+moving_cases P a b c d f Event.Timeout Entry.TimedOut h = f
+moving_cases P a b c d f event e h = absurd h
 
 -- such an event is of no roster
 pub moving_for : (r : Roster) (event : Event) (e : Entry) → IsMoving event e → cores.IsFor r event
-moving_for r = moving_cases (λ event e. cores.IsFor r event) tt tt tt tt
+moving_for r = moving_cases (λ event e. cores.IsFor r event) tt tt tt tt tt
 
 record IsQuiet (m : Maker) (journal : List Entry) (event : Event) (e : Entry) : Type 0 where
   next : makes_entry (step m.roster m.id (state m journal) (cores.event_of event)).answer ≡ true → IsNext m journal e
   event_is : event_of e ≡ cores.event_of event
   sound : IsHeardSound m e
   ticks : (c : ℕ) → tick c e ≡ c
-  signs : signed_by m e ≡ []
+  signs : (w : Walk) → signed_by m w e ≡ []
   puts : (w : Walk) → added m w e ≡ []
 
 quiet : (m : Maker) (journal : List Entry) (event : Event) (e : Entry) → IsMoving event e → IsQuiet m journal event e
-unfolding moves signed_by added
+unfolding moves stated_by signed_beside signed_by copies added
 quiet m journal =
     moving_cases (IsQuiet m journal)
-    (record { next = λ h. h; event_is = refl; sound = tt; ticks = λ c. refl; signs = refl; puts = λ w. refl })
-    (record { next = λ h. h; event_is = refl; sound = tt; ticks = λ c. refl; signs = refl; puts = λ w. refl })
-    (record { next = λ h. h; event_is = refl; sound = tt; ticks = λ c. refl; signs = refl; puts = λ w. refl })
-    (record { next = λ h. h; event_is = refl; sound = tt; ticks = λ c. refl; signs = refl; puts = λ w. refl })
+    (record { next = λ h. h; event_is = refl; sound = tt; ticks = λ c. refl; signs = λ w. refl; puts = λ w. refl })
+    (record { next = λ h. h; event_is = refl; sound = tt; ticks = λ c. refl; signs = λ w. refl; puts = λ w. refl })
+    (record { next = λ h. h; event_is = refl; sound = tt; ticks = λ c. refl; signs = λ w. refl; puts = λ w. refl })
+    (record { next = λ h. h; event_is = refl; sound = tt; ticks = λ c. refl; signs = λ w. refl; puts = λ w. refl })
+    (record { next = λ h. h; event_is = refl; sound = tt; ticks = λ c. refl; signs = λ w. refl; puts = λ w. refl })
 
 -- ---- what is kept
 
@@ -68,9 +70,9 @@ more_of m journal event e now signed counts made h moving makes =
       next = q.next makes;
       sound = q.sound;
       ticks = sym (q.ticks now);
-      signs = sym (ap (λ l. signed ++ l) q.signs ∙ append-nil signed);
+      signs = sym (ap (λ l. signed ++ l) (q.signs (walk m journal)) ∙ append-nil signed);
       numbers = subst (AreNumbers counts) (sym (ap (λ (l : List Parcel). parcels_of m journal ++ l) (q.puts (walk m journal)) ∙ append-nil (parcels_of m journal))) h.numbers;
-      makes = sym (ap (λ (l : List (List ℕ)). made + length l) q.signs ∙ add-zero made);
+      makes = sym (ap (λ (l : List (List ℕ)). made + length l) (q.signs (walk m journal)) ∙ add-zero made);
     }
 
 advanced : (m : Maker) (journal : List Entry) (core : Machine) (event : Event) (e : Entry) (now : ℕ) (signed : List (List ℕ)) (counts : Counts) (made : ℕ)

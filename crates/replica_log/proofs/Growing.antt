@@ -15,9 +15,9 @@ pub record IsMore (m : Maker) (journal : List Entry) (e : Entry) (old now : ℕ)
   pub next : IsNext m journal e
   pub sound : IsHeardSound m e
   pub ticks : now ≡ tick old e
-  pub signs : signed_now ≡ signed ++ signed_by m e
+  pub signs : signed_now ≡ signed ++ signed_by m (walk m journal) e
   pub numbers : AreNumbers counts (parcels_of m journal ++ added m (walk m journal) e)
-  pub makes : made_now ≡ made + length (signed_by m e)
+  pub makes : made_now ≡ made + length (signed_by m (walk m journal) e)
 
 pub kept_more : (m : Maker) (journal : List Entry) (e : Entry) (old now : ℕ) (signed signed_now : List (List ℕ)) (counts counts_now : Counts) (made made_now : ℕ)
     → IsKept m journal old signed counts made → IsMore m journal e old now signed signed_now counts_now made made_now
@@ -25,12 +25,15 @@ pub kept_more : (m : Maker) (journal : List Entry) (e : Entry) (old now : ℕ) (
 kept_more m journal e old now signed signed_now counts counts_now made made_now h more = record {
   limits = h.limits;
   member = h.member;
+  plain = h.plain;
+  alone = h.alone;
   replays = made_more m journal e h.replays more.next;
   sound = sound_more m journal e h.sound more.sound;
   clock_is = more.ticks ∙ ap (λ c. tick c e) h.clock_is ∙ sym (ap (λ (w : Walk). w.clock) (walk_more m journal e));
-  signed_is = more.signs ∙ ap (λ l. l ++ signed_by m e) h.signed_is ∙ sym (ap (λ (w : Walk). w.signed) (walk_more m journal e));
+  signed_is = more.signs ∙ ap (λ l. l ++ signed_by m (walk m journal) e) h.signed_is ∙ sym (ap (λ (w : Walk). w.signed) (walk_more m journal e));
   numbers = subst (AreNumbers counts_now) (sym (parcels_more m journal e)) more.numbers;
-  used = more.makes ∙ ap (λ n. n + length (signed_by m e)) h.used ∙ sym (ap length more.signs ∙ length-append signed (signed_by m e));
+  used = more.makes ∙ ap (λ n. n + length (signed_by m (walk m journal) e)) h.used
+      ∙ sym (ap length more.signs ∙ length-append signed (signed_by m (walk m journal) e));
   keyed = h.keyed;
 }
 

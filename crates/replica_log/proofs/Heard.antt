@@ -13,7 +13,7 @@ use Rattle.replica_core.specs.Cores as cores
 use Rattle.replica_core.specs.declared.events.Event.{Event}
 use Rattle.run_words.specs.declared.logs.Entry.{Entry}
 use Rattle.run_words.specs.declared.logs.Parcel.{Parcel}
-use Rattle.run_words.specs.Journal.{Maker, Walk, event_of, tick, added, signed_by, walk, parcels_of, IsNext, IsHeardSound}
+use Rattle.run_words.specs.Journal.{Maker, Walk, event_of, tick, copies, added, stated_by, signed_beside, signed_by, walk, parcels_of, IsNext, IsHeardSound}
 use Rattle.replica_log.specs.Entering.{has_entry}
 use Rattle.parcel_post.specs.Posting.{Counts, AreNumbers}
 use Rattle.replica_log.specs.Keeping.{IsKept, core_after, maker_of, IsLive, Enters, Stays, IsHearing}
@@ -25,16 +25,16 @@ record IsHeard (m : Maker) (journal : List Entry) (x : Message) (e : Entry) : Ty
   event_is : event_of e ≡ machine.Event.Hear x
   next : IsNext m journal e
   sound : IsHeardSound m e
-  signs : signed_by m e ≡ []
+  signs : (w : Walk) → signed_by m w e ≡ []
   puts : (w : Walk) → added m w e ≡ []
 
 heard : (m : Maker) (journal : List Entry) (x : Message) (e : Entry) → IsSound m.roster m.ring x → IsHearing e x → IsHeard m journal x e
-unfolding signed_by added
+unfolding stated_by signed_beside signed_by copies added
 heard m journal x (Entry.Heard origin y) s h = record {
   event_is = ap machine.Event.Hear h;
   next = tt;
   sound = subst (IsSound m.roster m.ring) (sym h) s;
-  signs = refl;
+  signs = λ w. refl;
   puts = λ w. refl;
 }
 heard m journal x e s h = absurd h
@@ -45,10 +45,10 @@ more_of m journal x e old now signed counts made h q t = record {
   next = q.next;
   sound = q.sound;
   ticks = t;
-  signs = sym (ap (λ l. signed ++ l) q.signs ∙ append-nil signed);
+  signs = sym (ap (λ l. signed ++ l) (q.signs (walk m journal)) ∙ append-nil signed);
   numbers = subst (AreNumbers counts)
       (sym (ap (λ (l : List Parcel). parcels_of m journal ++ l) (q.puts (walk m journal)) ∙ append-nil (parcels_of m journal))) h.numbers;
-  makes = sym (ap (λ (l : List (List ℕ)). made + length l) q.signs ∙ add-zero made);
+  makes = sym (ap (λ (l : List (List ℕ)). made + length l) (q.signs (walk m journal)) ∙ add-zero made);
 }
 
 -- of this replica, with this journal and this core

@@ -15,6 +15,7 @@ emit_open Act.Batch h = absurd h
 emit_open Act.Nudge h = absurd h
 emit_open Act.Execute h = absurd h
 emit_open Act.Checkpoint h = absurd h
+emit_open Act.Timeout h = absurd h
 
 other_shut : (act : Act) → (IsEmit act → true ≡ false) → StaysOpen act Told.NoMemory false true
 other_shut Act.Emit h = h tt
@@ -23,6 +24,7 @@ other_shut Act.Batch h = refl
 other_shut Act.Nudge h = refl
 other_shut Act.Execute h = refl
 other_shut Act.Checkpoint h = refl
+other_shut Act.Timeout h = refl
 
 told_open : (act : Act) (told : Told) → MayBeTold act told → StaysOpen act told false false
 told_open act Told.NoMemory h = emit_open act h

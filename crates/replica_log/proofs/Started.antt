@@ -9,15 +9,18 @@ use Rattle.run_words.specs.declared.logs.Entry.{Entry}
 use Rattle.run_words.specs.Journal.{Maker, walk}
 use Rattle.run_words.specs.Lawful.{IsKeyed}
 use Rattle.run_words.proofs.Replays.{fresh_is}
-use Rattle.parcel_post.specs.Posting.{Counts}
+use Rattle.parcel_post.specs.Posting.{Counts, SendsPlainly}
 use Rattle.replica_log.specs.Keeping.{IsKept, core_after, maker_of, IsLog}
 use Rattle.replica_log.specs.declared.keepers.Keeper.{Keeper}
 
-none_kept : (m : Maker) → IsWithinLimits m.roster → IsTrue (is_replica m.roster m.id) → IsKeyed m → IsKept m [] 0 [] [] 0
+none_kept : (m : Maker) → IsWithinLimits m.roster → IsTrue (is_replica m.roster m.id) → SendsPlainly m → m.seconds ≡ [] → IsKeyed m
+    → IsKept m [] 0 [] [] 0
 unfolding walk
-none_kept m limits member keyed = record {
+none_kept m limits member plain alone keyed = record {
   limits = limits;
   member = member;
+  plain = plain;
+  alone = alone;
   replays = tt;
   sound = tt;
   clock_is = refl;
@@ -44,9 +47,10 @@ pub starts : {S : Type 0} (limit made : S → ℕ) (gives : S → ℕ → List �
     → IsLog limit made gives k false
 starts limit made gives k limits member keyed clock journal signed numbers used core =
     let m = maker_of limit gives k in
+    let plain : SendsPlainly m = record { lossless = refl; correct = refl } in
     let of_state : Replica → Machine = λ s. record { roster = k.members; me = k.me; state = s; shut = false } in
     record {
       kept = subst (λ (n : ℕ). IsKept m k.journal.items n k.signed.items k.numbers (made k.signer)) (sym clock)
-          (kept_by m k.journal.items k.signed.items k.numbers (made k.signer) (none_kept m limits member keyed) journal signed numbers used);
+          (kept_by m k.journal.items k.signed.items k.numbers (made k.signer) (none_kept m limits member plain refl keyed) journal signed numbers used);
       live = λ h. core ∙ ap of_state (sym (fresh_is m)) ∙ ap (core_after m) (sym journal);
     }

@@ -20,7 +20,7 @@ left id journal signed parcels unsent =
 
 module _ {S : Type 0} (limit made : S → ℕ) (gives : S → ℕ → List ℕ → List ℕ) (k : Keeper S) (kept : Keeps limit made gives k) where
   pub spelled : AreSpelled k.journal.items
-  spelled = kept_spelled (maker_of limit gives k) k.journal.items kept.limits kept.member kept.keyed.fits kept.replays kept.sound
+  spelled = kept_spelled (maker_of limit gives k) k.journal.items kept.limits kept.member kept.keyed kept.replays kept.sound
 
   leaves_but : (parcels : List Parcel) → parcels ≡ parcels_of (maker_of limit gives k) k.journal.items
       → IsTraceBut (maker_of limit gives k) k.journal.items (left_with k parcels)

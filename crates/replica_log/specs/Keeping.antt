@@ -1,5 +1,5 @@
 -- What holds of what a log keeps, and what an act does to it.
-use Rattle.std.specs.Prelude.{◌≡◌, ℕ, Bool, false, cond, List, [], ◌∷◌, ◌++◌, length, IsTrue}
+use Rattle.std.specs.Prelude.{◌≡◌, ℕ, Bool, false, cond, List, [], ◌∷◌, ◌++◌, length, None, IsTrue}
 use Rattle.fab_base.specs.Limits.{IsWithinLimits}
 use Rattle.fab_base.specs.Roster.{is_replica}
 use Rattle.fab_base.specs.declared.messages.Message.{Message}
@@ -11,7 +11,7 @@ use Rattle.run_words.specs.Lawful.{IsKeyed}
 use Rattle.run_words.specs.Acts.{Acted}
 use Rattle.run_words.specs.declared.party.Act.{Act}
 use Rattle.run_words.specs.declared.party.Told.{Told}
-use Rattle.parcel_post.specs.Posting.{Counts, AreNumbers}
+use Rattle.parcel_post.specs.Posting.{Counts, AreNumbers, SendsPlainly}
 use Rattle.replica_log.specs.declared.keepers.Keeper.{Keeper}
 
 -- ---- a journal and what is kept of it
@@ -20,6 +20,9 @@ use Rattle.replica_log.specs.declared.keepers.Keeper.{Keeper}
 pub record IsKept (m : Maker) (journal : List Entry) (clock_now : ℕ) (signed : List (List ℕ)) (counts : Counts) (made : ℕ) : Type 0 where
   pub limits : IsWithinLimits m.roster
   pub member : IsTrue (is_replica m.roster m.id)
+  -- it sends as a correct replica does, and signs nothing beside what it says
+  pub plain : SendsPlainly m
+  pub alone : m.seconds ≡ []
   pub replays : IsMade m journal
   pub sound : AreSound m journal
   pub clock_is : clock_now ≡ clock m journal
@@ -40,6 +43,9 @@ maker_of limit gives k = record {
   id = k.me;
   roster = k.members;
   ring = k.ring;
+  losses = [];
+  fault = None;
+  seconds = [];
   leaves = limit k.signer;
   signature = gives k.signer;
 }
@@ -89,6 +95,7 @@ IsMoving Event.Batch Entry.Proposed = Unit {0}
 IsMoving Event.Nudge Entry.Nudged = Unit {0}
 IsMoving Event.Execute Entry.Executed = Unit {0}
 IsMoving Event.Checkpoint Entry.Marked = Unit {0}
+IsMoving Event.Timeout Entry.TimedOut = Unit {0}
 IsMoving event entry = ⊥
 
 -- ---- what the core hears

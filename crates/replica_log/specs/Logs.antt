@@ -1,5 +1,5 @@
 -- What a contract sees of a replica's log.
-use Rattle.std.specs.Prelude.{◌≡◌, ℕ, Bool, false, List, []}
+use Rattle.std.specs.Prelude.{◌≡◌, ℕ, Bool, false, List, [], None}
 use Rattle.fab_base.specs.Limits.{Roster}
 use Rattle.fab_base.specs.declared.ids.ReplicaId.{ReplicaId}
 use Rattle.bft_verify.specs.Ring.{Ring}
@@ -16,12 +16,15 @@ pub record Log (S : Type 0) : Type 0 where
   pub shut : Bool
   pub signer : S
 
--- what it is made with, by what its signer is
+-- what it is made with, by what its signer is: it is correct, and nothing of what it sends is lost or repeated
 abbrev pub made_of : {S : Type 0} → (S → ℕ) → (S → ℕ → List ℕ → List ℕ) → Log S → Maker
 made_of limit gives log = record {
   id = log.me;
   roster = log.roster;
   ring = log.ring;
+  losses = [];
+  fault = None;
+  seconds = [];
   leaves = limit log.signer;
   signature = gives log.signer;
 }

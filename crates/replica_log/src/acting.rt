@@ -52,6 +52,7 @@ impl<S: Signer + Drop> Keeper<S> {
             Act::Nudge => told(self.advance(Event::Nudge, NewEntry::new(Entry::Nudged))),
             Act::Execute => told(self.advance(Event::Execute, NewEntry::new(Entry::Executed))),
             Act::Checkpoint => told(self.advance(Event::Checkpoint, NewEntry::new(Entry::Marked))),
+            Act::Timeout => told(self.advance(Event::Timeout, NewEntry::new(Entry::TimedOut))),
             Act::Emit => Ok(told_anyway(self.emit())),
         }
     }

@@ -1,4 +1,4 @@
-//! A correct replica in a run: a core that keeps its journal, its clock and its signer.
+//! A correct replica in a run: a core that keeps its journal, its clock and its signer. Nothing of what it sends is lost or repeated.
 //!
 //! - [`replica_log`] makes a [`ReplicaLog`], which has done nothing. It is a [`Party`](run_words::Party), and its calls are that trait's: an act
 //!   makes the entry that the replica's machine makes after the journal, and what is left behind at the end is the trace of the journal.
@@ -15,7 +15,7 @@
 //!
 //! The modules: `logs` has the type, `making` makes one, and `party` has its calls. `keepers` is what a log keeps. `acting` says which act goes
 //! where, and `asking` whether it would make an entry; `hearing` is Hear, `moving` is what the core does of its own accord
-//! (Batch, Nudge, Execute and Checkpoint), `sending` is Emit, and `entering` is one step of the core with its entry. `leaving` is the trace.
+//! (Batch, Nudge, Execute, Checkpoint and Timeout), `sending` is Emit, and `entering` is one step of the core with its entry. `leaving` is the trace.
 //! `replaying` replays a journal.
 #![tactic(auto)]
 

@@ -3,7 +3,7 @@ use crate::keepers::Keeper;
 use lms_tree::Signer;
 use std::marker::Model;
 
-/// A replica's log: its core with the journal of what the core did, which the core's state follows from. Contracts see whose it is, the
+/// A correct replica's log: its core with the journal of what the core did, which the core's state follows from. Contracts see whose it is, the
 /// journal, the signer, and whether the log was shut: where memory is refused in the middle of an act, something may be counted and its
 /// entry not made, so from then on every act answers `NoMemory`.
 #[derive(Drop)]

@@ -1,4 +1,4 @@
-//! Batch, Nudge, Execute and Checkpoint: what the core does of its own accord.
+//! Batch, Nudge, Execute, Checkpoint and Timeout: what the core does of its own accord.
 ghost use Rattle.std.specs.Prelude.{◌≡◌, IfOk, OnErr};
 ghost use Rattle.fab_machine.specs.Step.{makes_entry};
 ghost use Rattle.replica_core.specs.Cores.{event_of};

@@ -1,6 +1,6 @@
 //! A log as a party of a run.
 ghost use Rattle.std.specs.Prelude.{◌≡◌, false, not, ◌&&◌, length, IfOk};
-ghost use Rattle.run_words.specs.Journal.{moves};
+ghost use Rattle.run_words.specs.Journal.{signed_of, moves};
 ghost use Rattle.run_words.specs.Acts.{IsFor, Acted, StaysOpen, IsTraceBut};
 ghost use Rattle.run_words.specs.Runs.{trace_of};
 ghost use Rattle.replica_log.specs.Logs.{made_of};
@@ -36,13 +36,15 @@ impl<S: Signer + Drop> Party for ReplicaLog<S> {
     }
 
     /// What the trait says of an act, and beside it: a leaf of the key is used only for what is sent. Whatever else is told, of a refused Emit
-    /// too, the signer is what it was (`signer`).
+    /// too, the signer is what it was (`signer`). As many leaves are used as contents were signed, so none for what another signed or nobody
+    /// does (`leaves`).
     fn act(&mut self, act: Act) -> Told
         requires { IsFor (made_of S.limit S.gives self.old) act }
         ensures made { made_of S.limit S.gives self.new ≡ made_of S.limit S.gives self.old }
         ensures acted { Acted (made_of S.limit S.gives self.old) self.old.journal act result self.new.journal }
         ensures open { StaysOpen act result self.old.shut self.new.shut }
         ensures signer { KeepsSigner result self.old.signer self.new.signer }
+        ensures leaves { S.made self.new.signer ≡ length (signed_of (made_of S.limit S.gives self.new) self.new.journal) }
     {
         if self.shut {
             drop(act);

@@ -51,6 +51,7 @@ fn event(alloc: Global, members: &Members, entry: &Entry) -> Result<Event, NoMem
         }),
         Entry::Executed => Ok(Event::Execute),
         Entry::Marked => Ok(Event::Checkpoint),
+        Entry::TimedOut => Ok(Event::Timeout),
     }
 }
 

@@ -1,19 +1,19 @@
 //! Emit: the first item that waits is sent.
-ghost use Rattle.std.specs.Prelude.{◌≡◌, ◌+◌, ◌<◌, ◌^◌, true, false, length, None, IfOk, OnOk, OnErr, vec_len, vec_capacity};
+ghost use Rattle.std.specs.Prelude.{◌≡◌, ◌+◌, ◌∷◌, ◌<◌, ◌^◌, true, false, [], length, None, IfOk, OnOk, OnErr, vec_len, vec_capacity};
 ghost use Rattle.lms_tree.specs.Signatures.{tree_signature_len};
 ghost use Rattle.fab_machine.specs.Step.{first};
-ghost use Rattle.run_words.specs.Journal.{moves, entry_of};
+ghost use Rattle.run_words.specs.Journal.{needs_leaf, moves, entry_of};
 ghost use Rattle.run_words.specs.Acts.{told_of_emit};
 ghost use Rattle.run_words.specs.declared.movers.Mover.{Mover};
 ghost use Rattle.replica_log.specs.Acting.{told_anyway};
 ghost use Rattle.replica_log.specs.Logs.{KeepsSigner};
 ghost use Rattle.replica_log.specs.Keeping.{maker_of, Keeps, IsLive, IsLiveThen, Enters, Moves};
 ghost use Rattle.parcel_post.specs.Posting.{sent_with};
-ghost use Rattle.replica_log.specs.Sending.{Waits, content_in, receivers_in, sent_in, after_sending, parcels_next, ArePacked, IsSealed};
+ghost use Rattle.replica_log.specs.Sending.{Waits, content_in, bytes_in, IsSpelledIn, receivers_in, sent_in, after_sending, parcels_next, ArePacked, AreWhole, IsSealed};
 
 use crate::keepers::Keeper;
-use bft_msg::put_seal_front;
-use fab_base::{Answer, Bytes, Item, NoMemory, ReplicaId};
+use bft_msg::{encode, put_seal_front, signer};
+use fab_base::{Answer, Bytes, Item, NoMemory, ReplicaId, Who};
 use lms_tree::{SignFault, Signer};
 use parcel_post::{Numbers, Prepared, prepare};
 use replica_core::{Core, Event};
@@ -45,6 +45,16 @@ fn has_first(core: &Core) -> bool
     ensures none { result ≡ false → first core.now.state ≡ None }
 {
     core.first().is_some()
+}
+
+/// Whether the first item that waits is to be signed by this replica. Takes no memory.
+pub(crate) fn needs_leaf(me: ReplicaId, core: &Core) -> bool
+    ensures { result ≡ needs_leaf me (first core.now.state) }
+{
+    match core.first() {
+        Some(item) => signer(&item.message) == Some(Who::Replica(me)),
+        None => false,
+    }
 }
 
 /// Whether a leaf is left. Takes no memory.
@@ -133,7 +143,7 @@ impl<S: Signer + Drop> Keeper<S> {
         requires journal { vec_len self.old.journal < vec_capacity self.old.journal }
         requires signed { vec_len self.old.signed < vec_capacity self.old.signed }
         ensures parcels { result ≡ sent_with sig out.parcels }
-        ensures sealed { IsSealed self.old out.content out.parcels sig self.new }
+        ensures sealed { IsSealed self.old (out.content ∷ []) out.parcels sig self.new }
     {
         let parcels = out.parcels.send(&mut self.numbers, sig.as_slice());
         let item = send_first(&mut self.core, sig);
@@ -142,12 +152,13 @@ impl<S: Signer + Drop> Keeper<S> {
         parcels
     }
 
-    /// Sends the first item that waits, signed by the next leaf: whatever waits is a statement of the replica's own. All memory is taken
-    /// before the leaf is used: after a refusal nothing has changed.
+    /// Sends the first item that waits, which the replica itself signs, by the next leaf. All memory is taken before the leaf is used: after a
+    /// refusal nothing has changed.
     fn send(&mut self) -> Result<Parcels, NoMemory>
         requires kept { Keeps S.limit S.made S.gives self.old }
         requires live { IsLive S.limit S.gives self.old }
         requires waits { Waits (first self.old.core.state) }
+        requires own { needs_leaf self.old.me (first self.old.core.state) ≡ true }
         requires unspent { S.made self.old.signer < S.limit self.old.signer }
         ensures parcels { IfOk result (λ parcels. parcels ≡ parcels_next (maker_of S.limit S.gives self.old) self.old.journal.items) }
         ensures enters { OnOk result (Enters S.limit S.made S.gives self.old
@@ -171,8 +182,71 @@ impl<S: Signer + Drop> Keeper<S> {
         }
     }
 
-    /// Sends the first item that waits, signed by the next leaf where the replica itself signs it. All memory is taken before the leaf is
-    /// used: after a refusal nothing has changed.
+    /// The parcels of the first item as it stands: another signed it, or nobody does. It fails only where memory is refused or 2^64 - 1
+    /// parcels were put to a receiver.
+    fn passing(&self) -> Result<Prepared, NoMemory>
+        requires waits { Waits (first self.now.core.state) }
+        requires spelled { IsSpelledIn (first self.now.core.state) }
+        ensures { IfOk result (λ draft. AreWhole self.now.numbers self.now.clock (bytes_in (first self.now.core.state))
+            (receivers_in (first self.now.core.state)) draft) }
+    {
+        let item = self.core.first().unwrap();
+        let alloc = *self.journal.allocator();
+        let bytes = encode(alloc, &item.message)?;
+        prepare(
+            alloc,
+            &self.numbers,
+            self.clock,
+            bytes.as_slice(),
+            0,
+            item.to.as_slice(),
+        )
+    }
+
+    /// Sends these parcels of the first item, and enters it as it stands. Takes no memory: there is room for it.
+    fn pass(&mut self, out: Prepared, none: Bytes) -> Parcels
+        requires calm { self.old.core.shut ≡ false }
+        requires waits { Waits (first self.old.core.state) }
+        requires none { none ≡ [] }
+        requires len { out.room ≡ 0 }
+        requires journal { vec_len self.old.journal < vec_capacity self.old.journal }
+        ensures parcels { result ≡ sent_with none out }
+        ensures sealed { IsSealed self.old [] out none self.new }
+    {
+        let parcels = out.send(&mut self.numbers, none.as_slice());
+        let item = send_first(&mut self.core, none);
+        self.journal.push(Entry::Sent(item)).unwrap();
+        parcels
+    }
+
+    /// Passes on the first item that waits, which the replica doesn't sign: it is sent as it stands, and no leaf is used. All memory is taken
+    /// first: after a refusal nothing has changed.
+    fn pass_on(&mut self) -> Result<Parcels, NoMemory>
+        requires kept { Keeps S.limit S.made S.gives self.old }
+        requires live { IsLive S.limit S.gives self.old }
+        requires waits { Waits (first self.old.core.state) }
+        requires another { needs_leaf self.old.me (first self.old.core.state) ≡ false }
+        ensures parcels { IfOk result (λ parcels. parcels ≡ parcels_next (maker_of S.limit S.gives self.old) self.old.journal.items) }
+        ensures enters { OnOk result (Enters S.limit S.made S.gives self.old
+            (entry_of (maker_of S.limit S.gives self.old) self.old.journal.items Mover.Emit) self.new) }
+        ensures err { OnErr result (IsLiveThen S.limit S.made S.gives self.old self.old.journal.items self.new) }
+        ensures signer { self.new.signer ≡ self.old.signer }
+    {
+        let out = self.passing()?;
+        match self.journal.reserve(1) {
+            Ok(()) => {
+                let none = Bytes::new(*self.journal.allocator());
+                Ok(self.pass(out, none))
+            }
+            Err(_) => {
+                drop(out);
+                Err(NoMemory)
+            }
+        }
+    }
+
+    /// Sends the first item that waits, signed by the next leaf where the replica itself signs it, and as it stands where it doesn't. All
+    /// memory is taken before the leaf is used: after a refusal nothing has changed.
     pub(crate) fn emit(&mut self) -> Result<Told, NoMemory>
         requires kept { Keeps S.limit S.made S.gives self.old }
         requires live { IsLive S.limit S.gives self.old }
@@ -185,6 +259,9 @@ impl<S: Signer + Drop> Keeper<S> {
     {
         if !has_first(&self.core) {
             return Ok(Told::Core(Answer::Nothing));
+        }
+        if !needs_leaf(self.me, &self.core) {
+            return Ok(Told::Out(self.pass_on()?));
         }
         if !has_leaf(&self.signer) {
             return Ok(Told::KeySpent {

@@ -1,6 +1,9 @@
 -- Certificates that are stored under their own round and cluster are found by them.
-use Rattle.std.proofs.Common.{◌≡◌, ℕ, Bool, true, false, cond, ◌&&◌, nat_eq, List, [], ◌∷◌, ◌++◌, Some, refl, sym, ap, ◌∙◌, arith}
-use Rattle.std.specs.List.{list_all, filter}
+use Rattle.std.proofs.Common.{◌≡◌, ℕ, Bool, true, false, cond, ◌&&◌, nat_eq, List, [], ◌∷◌, ◌++◌, Option, Some, Bor, refl, sym, ap, ◌∙◌, arith}
+use Rattle.std.specs.List.{list_all, filter, slice_get}
+use Rattle.std.specs.Option.{option_map}
+use Rattle.std.specs.Map.Iter.{deref_pair}
+use Rattle.std.proofs.lemmas.Option.{slice_get-map}
 use Rattle.std.specs.Map.{lookup, values_of}
 use Rattle.std.proofs.lemmas.Bool.Decides.{nat_tests}
 use Rattle.fab_base.specs.declared.messages.CommitCert.{CommitCert}
@@ -55,3 +58,11 @@ pub is_keyed-own : (round cluster : ℕ) (k : CommitCert) → round ≡ round_of
     → is_keyed (record { round = round; cluster = cluster }, k) ≡ true
 is_keyed-own round cluster k r c =
     and_both (nat_eq (round_of k) round) (nat_eq k.cluster cluster) (ap (nat_eq (round_of k)) r ∙ is_same (round_of k)) (ap (nat_eq k.cluster) c ∙ is_same k.cluster)
+
+-- ---- by their place
+
+-- the value of the entry at a place is the value at the place
+pub value_at : (es : List (Place × CommitCert)) (ks : List CommitCert) (i : ℕ) (found : Option (Bor Place × Bor CommitCert)) → values_of es ≡ ks
+    → option_map deref_pair found ≡ slice_get es i → option_map (λ e. e.1) (option_map deref_pair found) ≡ slice_get ks i
+value_at es ks i found view e =
+    ap (option_map (λ (x : Place × CommitCert). x.1)) e ∙ (sym (slice_get-map (λ (x : Place × CommitCert). x.1) es i) ∙ ap (λ l. slice_get l i) view)

@@ -4,3 +4,4 @@ pub mod Storing
 pub mod Gathered
 pub mod Knowing
 pub mod Places
+pub mod ByRound

@@ -1,10 +1,12 @@
 //! The rounds that a replica keeps and executes.
 ghost use Rattle.std.specs.Prelude.{◌≡◌, ◌+◌, length, IfSome, IfOk, OnOk, OnErr, IsTrue};
+ghost use Rattle.std.specs.List.{filter};
 ghost use Rattle.std.specs.Option.{option_copied, option_map};
 ghost use Rattle.fab_machine.specs.Rounds.{certificate_for, knows_others, keep_answer, keep, next_round, after_round, ran_block, outcomes_at, chain, chain_at};
+ghost use Rattle.fab_machine.specs.Sharing.{by_round};
 ghost use Rattle.fab_rules.specs.Format.{batch_fits};
 ghost use Rattle.fab_machine.specs.State.{fresh_rounds};
-ghost use Rattle.round_exec.specs.Book.{are_clients, is_keepable, with_rounds, missing_of};
+ghost use Rattle.round_exec.specs.Book.{are_clients, is_keepable, is_between, with_rounds, missing_of};
 ghost use Rattle.round_exec.specs.Running.{ran_of};
 ghost use Rattle.round_exec.specs.Done.{AreWhole};
 
@@ -13,6 +15,7 @@ use crate::certificates::{Certificates, round_of};
 use crate::executed::Executed;
 use crate::gathering::{first_missing, gather, knows_others};
 use crate::ran::Ran;
+use crate::rising::rising;
 use fab_base::{CommitCert, Hash32, Outcomes, Take};
 use fab_rules::{Block, Blocks};
 use msg_spell::batch_digest;
@@ -135,6 +138,13 @@ impl Rounds {
         self.done.next() - 1
     }
 
+    /// The next round to be executed, from 1.
+    pub fn next(&self) -> u64
+        ensures { result ≡ self.now.rounds.executed + 1 }
+    {
+        self.done.next()
+    }
+
     /// The chain of the ledger.
     pub fn chain(&self) -> Hash32
         ensures { result ≡ chain self.now.rounds }
@@ -171,8 +181,16 @@ impl Rounds {
         self.certificates.of(round, cluster)
     }
 
-    /// What a certificate is answered.
-    fn answer(&self, cert: &CommitCert) -> Take
+    /// Copies of the kept certificates of a cluster that are of a round from one up to another, rounds rising. Of a round at most one is kept.
+    /// It fails only where memory is refused.
+    pub fn certs(&self, cluster: u8, from: u64, upto: u64) -> Result<Vec<CommitCert>, NoMemory>
+        ensures { IfOk result (λ certs. certs.items ≡ by_round (filter (is_between cluster from upto) self.now.rounds.certificates)) }
+    {
+        rising(self.done.alloc(), &self.certificates, cluster, from, upto)
+    }
+
+    /// What a certificate is answered by [`keep`](Rounds::keep). Takes no memory.
+    pub fn answer(&self, cert: &CommitCert) -> Take
         requires { IsTrue (is_keepable self.now.clusters self.now.clients cert.now) }
         ensures { result ≡ keep_answer self.now.rounds cert.now }
     {

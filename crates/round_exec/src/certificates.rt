@@ -1,5 +1,5 @@
 //! The certificates that are kept, found by round and cluster.
-ghost use Rattle.std.specs.Prelude.{◌≡◌, ◌++◌, [], ◌∷◌, None, OnOk, OnErr};
+ghost use Rattle.std.specs.Prelude.{◌≡◌, ◌++◌, [], ◌∷◌, length, slice_get, None, OnOk, OnErr};
 ghost use Rattle.std.specs.Option.{option_copied};
 ghost use Rattle.fab_machine.specs.Rounds.{round_of, certificate_for};
 
@@ -55,6 +55,23 @@ impl Certificates {
         ensures { option_copied result ≡ certificate_for self.now round cluster }
     {
         self.held.get(&Place { round, cluster })
+    }
+
+    /// How many are kept.
+    pub(crate) fn len(&self) -> usize
+        ensures { result ≡ length self.now }
+    {
+        self.held.len()
+    }
+
+    /// The one at this place of the order in which they came, from 0: `None` exactly where no more are kept.
+    pub(crate) fn at(&self, place: usize) -> Option<&CommitCert>
+        ensures { option_copied result ≡ slice_get self.now place }
+    {
+        match self.held.get_index(place) {
+            Some((_, cert)) => Some(cert),
+            None => None,
+        }
     }
 
     /// Keeps a certificate whose round and cluster have none. Where memory is refused, nothing changes.

@@ -1,5 +1,5 @@
 -- What was heard was put: as a client's request or as a parcel.
-use Rattle.std.proofs.Common.{◌≡◌, ℕ, zero, suc, ◌+◌, ◌≤◌, Bool, true, false, cond, ◌&&◌, ◌⊎◌, nat_eq, List, [], ◌∷◌, map, Ok, Result, inl, inr, refl, sym, ap, subst, ◌∙◌, arith, sum_by}
+use Rattle.std.proofs.Common.{◌≡◌, ℕ, zero, suc, ◌≤◌, Bool, true, false, cond, ◌&&◌, ◌⊎◌, nat_eq, List, [], ◌∷◌, Ok, Result, inl, inr, refl, sym, ap, subst, ◌∙◌, arith, sum_by}
 use Rattle.std.proofs.lemmas.List.Sums.{sum_by-cons}
 use Rattle.std.proofs.lemmas.Slice.Eq.{bytes_eq-Decides}
 use Rattle.std.specs.Str.{bytes_eq}
@@ -10,7 +10,6 @@ use Rattle.fab_base.proofs.Tests.{and_left, and_right, and_both, same, is_same}
 use Rattle.fab_rules.specs.Format.{fits}
 use Rattle.fab_rules.specs.Lists.{In}
 use Rattle.fab_rules.specs.Spelling.{spelling_of}
-use Rattle.fab_rules.proofs.Lists.{in_append_cases, of_map}
 use Rattle.fault_script.specs.declared.scripts.Script.{Script}
 use Rattle.fault_script.specs.declared.scripts.Wish.{Wish}
 use Rattle.msg_read.specs.Reading.{reading_of}
@@ -55,6 +54,10 @@ pub tested : (b : Bool) → 1 ≤ cond b 1 0 → b ≡ true
 tested true h = refl
 tested false h = absurd (omega (arith, h))
 
+passing : (b : Bool) (n : ℕ) → 1 ≤ cond b n 0 → b ≡ true
+passing true n h = refl
+passing false n h = absurd (omega (arith, h))
+
 -- ---- a copy was put
 
 -- a copy of a request passes the test
@@ -81,14 +84,14 @@ posted_copy : (p : Test) (traces : List Trace) (to : ReplicaId) → 1 ≤ sum_by
 posted_copy p traces to h =
     let s = some_counts (λ (t : Trace). parcels_counted p to t.id t.parcels) traces h in
     let t = s.item in
-    let q = some_counts (λ (x : Parcel). cond (keyed.is_same to x.to && p (Origin.Replica t.id x.time) x.bytes) 1 0) t.parcels s.counts in
+    let q = some_counts (λ (x : Parcel). cond (keyed.is_same to x.to && p (Origin.Replica t.id x.time) x.bytes) x.passes 0) t.parcels s.counts in
     let test = p (Origin.Replica t.id q.item.time) q.item.bytes in
     record {
       trace = t;
       is_in = s.is_in;
       parcel = q.item;
       posted = q.is_in;
-      passes = and_right (keyed.is_same to q.item.to) test (tested (keyed.is_same to q.item.to && test) q.counts);
+      passes = and_right (keyed.is_same to q.item.to) test (passing (keyed.is_same to q.item.to && test) q.item.passes q.counts);
     }
 
 put_cases : (p : Test) (r : Rules) (traces : List Trace) (to : ReplicaId) → 1 ≤ put_counted p r traces to

@@ -1,49 +1,43 @@
--- What a parcel carries: a message in which each part is the sender's own, or stands in a message that the sender heard at an earlier time.
-use Rattle.std.proofs.Common.{◌≡◌, ℕ, ◌<◌, ◌≤◌, Bool, true, false, cond, ◌&&◌, ◌⊎◌, List, [], ◌∷◌, ◌++◌, drop, length, inl, inr, refl, sym, ap, subst, ◌∙◌, append_assoc, append-nil, arith}
+-- What a parcel of a correct replica carries: a message in which each statement is the sender's own, or stands in a message that the sender
+-- heard at an earlier time.
+use Rattle.std.proofs.Common.{◌≡◌, ℕ, ◌<◌, ◌≤◌, Bool, true, false, cond, ◌&&◌, ◌⊎◌, List, [], ◌∷◌, ◌++◌, drop, length, None, inl, inr, refl, sym, ap, subst, ◌∙◌, append_assoc, append-nil, arith}
 use Rattle.std.specs.Prelude.{IsTrue}
-use Rattle.std.specs.List.{count_by}
 use Rattle.std.specs.Option.{is_some}
 use Rattle.fab_base.specs.Limits.{IsWithinLimits}
 use Rattle.fab_base.specs.Roster.{is_replica}
 use Rattle.fab_base.specs.declared.answers.Item.{Item}
-use Rattle.fab_base.specs.declared.ids.ReplicaId.{ReplicaId}
 use Rattle.fab_base.specs.declared.messages.Message.{Message}
-use Rattle.fab_base.specs.declared.requests.Request.{Request}
 use Rattle.fab_rules.specs.Diary as diaries
 use Rattle.fab_rules.specs.Diary.{Heard, Said, StatementHeard}
 use Rattle.fab_base.specs.Fields.{op_fits}
 use Rattle.fab_rules.specs.Format.{is_u8, is_u32, is_u64, id_fits, digest_fits, signature_fits, batch_fits, proof_fits, certificates_fit, view_changes_fit, lines_fit, fields_fit, fits}
-use Rattle.fab_rules.specs.Growth.{after_saying}
 use Rattle.fab_rules.specs.Lists.{In, first_of}
 use Rattle.fab_rules.specs.Spelling.{spelling_of, content_of}
 use Rattle.fab_rules.specs.Statements.{signer_of, unsigned, parts_of, statements_of}
-use Rattle.fab_rules.proofs.Diaries as ruled
-use Rattle.fab_rules.proofs.Fitting.{fields_are}
-use Rattle.fab_rules.proofs.Lengths.{proposal_is_spelled, prepare_is_spelled, commit_is_spelled, checkpoint_is_spelled, note_is_spelled}
-use Rattle.fab_rules.proofs.Lists.{in_append_left, in_append_right, in_append_cases, of_map, in_flat_map, in_filter, of_filter}
-use Rattle.fab_rules.proofs.Saying.{same_heard, heard_before, now_said}
+use Rattle.fab_rules.proofs.Lists.{in_append_left, in_append_right, in_append_cases, of_filter}
+use Rattle.fab_rules.proofs.Saying.{same_heard, heard_before}
 use Rattle.fab_machine.specs.State.{Replica}
-use Rattle.fab_machine.specs.Items.{is_own, with_sig, sent_item, draft_of, statements_by, statements_in}
+use Rattle.fab_machine.specs.Items.{is_own, with_sig, sent_item, draft_of, statements_in}
 use Rattle.fab_machine.specs.Step.{step, makes_entry, emit_step}
-use Rattle.fab_machine.specs.Diaries.{MayCome, diary_sent, diary_after}
-use Rattle.fab_machine.specs.Relation.{IsQuoting, full_of, AreRelated}
+use Rattle.fab_machine.specs.Diaries.{diary_after}
+use Rattle.fab_machine.specs.Relation.{full_of, AreFactsOf}
 use Rattle.fab_machine.proofs.Blocks.{heard_before_blocks}
-use Rattle.fab_machine.proofs.Steps.{step_keeps, starts_related}
-use Rattle.bft_verify.proofs.Soundness.{shaped_from_sound}
-use Rattle.run_words.specs.Keyed.{is_same}
+use Rattle.fab_machine.proofs.Members.{is_member}
+use Rattle.fab_machine.proofs.Steps.{starts_related}
+use Rattle.bft_verify.specs.Sound.{IsSound}
 use Rattle.run_words.specs.declared.movers.Mover.{Mover}
 use Rattle.run_words.specs.declared.logs.Entry.{Entry}
 use Rattle.run_words.specs.declared.logs.Origin.{Origin}
 use Rattle.run_words.specs.declared.logs.Parcel.{Parcel}
 use Rattle.run_words.specs.declared.logs.Trace.{Trace}
-use Rattle.run_words.specs.Journal.{Maker, Walk, event_of, state, put, walk, clock, added, parcels_of, signed_by, signed_of, needs_leaf, moves, item_by, next_item, IsNext, IsMadeFrom, IsHeardSound, AreSound}
+use Rattle.run_words.specs.Journal.{Maker, Walk, event_of, state, walk, stated_by, signed_beside, clock, added, parcels_of, signed_by, signed_of, moves, item_by, next_item, IsNext, IsMadeFrom, IsHeardSound, AreSound}
 use Rattle.run_words.specs.Lawful.{IsKeyed, Kept}
 use Rattle.run_words.proofs.Clocks.{rises, above}
 use Rattle.run_words.proofs.Walks.{walk_more, parcels_more}
-use Rattle.run_words.proofs.Replays.{state_more, fresh_is, emits}
-use Rattle.run_words.proofs.Placing.{leaf_left}
-use Rattle.run_words.proofs.Sending.{waiting_said, sent_heard, may_be, put_is}
-use Rattle.run_words.proofs.Voices.{IsVoice, voice_is_own, AreVoices, step_voices}
+use Rattle.run_words.proofs.Replays.{state_more, said_signed, fresh_is, emits}
+use Rattle.run_words.proofs.Sending as sending
+use Rattle.run_words.proofs.Sending.{waiting_said, sent_heard, signed_statements, next_sound}
+use Rattle.run_words.proofs.Twisting.{added_bytes, copies_are_sent, put_is}
 
 -- ---- what is claimed
 
@@ -74,7 +68,7 @@ pub record IsCarried (m : Maker) (journal : List Entry) (q : Parcel) : Type 0 wh
   pub message : Message
   pub has_spelling : fits message ≡ true
   pub spelled : q.bytes ≡ spelling_of message
-  pub each : (part : Message) → In part (parts_of message) → IsOwnOrQuoted m journal q.time part
+  pub each : (part : Message) → In part (statements_of message) → IsOwnOrQuoted m journal q.time part
 
 -- ---- a signed statement has a spelling as the unsigned one does
 
@@ -97,73 +91,6 @@ signed_fits sig (Message.ReplyNote x) f h = keep (id_fits x.signer) _ _ (keep (i
 signed_fits sig (Message.Share x) f h = h
 signed_fits sig (Message.Fetch x) f h = h
 
-spelled_again : (me : ReplicaId) (sig : List ℕ) (x : Message) → IsVoice me x → signature_fits sig ≡ true → fits (unsigned x) ≡ true
-    → fits (with_sig sig x) ≡ true
-spelled_again me sig x v f h = by x v (signed_fits sig x f (fields_are (unsigned x) h))
-  where
-    by : (x : Message) → IsVoice me x → fields_fit (with_sig sig x) ≡ true → fits (with_sig sig x) ≡ true
-    by (Message.PrePrepare x) v fine = proposal_is_spelled (record x { sig = sig }) fine
-    by (Message.Prepare x) v fine = prepare_is_spelled (record x { sig = sig }) fine
-    by (Message.Commit x) v fine = commit_is_spelled (record x { sig = sig }) fine
-    by (Message.Checkpoint x) v fine = checkpoint_is_spelled (record x { sig = sig }) fine
-    by (Message.ReplyNote x) v fine = note_is_spelled (record x { sig = sig }) fine
-    by (Message.Request x) v fine = absurd v
-    by (Message.ViewChange x) v fine = absurd v
-    by (Message.NewView x) v fine = absurd v
-    by (Message.Drvc x) v fine = absurd v
-    by (Message.Rvc x) v fine = absurd v
-    by (Message.Share x) v fine = absurd v
-    by (Message.Fetch x) v fine = absurd v
-
--- ---- its parts: the statement itself, and the requests of a proposal
-
-abbrev IsWholeOrInside : List diaries.Entry → Message → Message → Type 0
-IsWholeOrInside full whole part = (whole ≡ part) ⊎ StatementHeard full part
-
-parts_are : (me : ReplicaId) (sig : List ℕ) (x : Message) (full : List diaries.Entry) → IsVoice me x → IsQuoting full (unsigned x)
-    → (part : Message) → In part (parts_of (with_sig sig x)) → IsWholeOrInside full (with_sig sig x) part
-parts_are me sig (Message.PrePrepare x) full v quoting part (inl e) = inl e
-parts_are me sig (Message.PrePrepare x) full v quoting part (inr i) =
-    let from = of_map Message.Request part x.batch i in
-    let there : In part (statements_of (unsigned (Message.PrePrepare x))) =
-    in_filter (λ y. is_some (signer_of y)) part (parts_of (unsigned (Message.PrePrepare x))) (inr i)
-    (subst (λ (y : Message). is_some (signer_of y) ≡ true) from.same refl) in
-    quoted from.from from.same (quoting part there)
-  where
-    quoted : (y : Request) → Message.Request y ≡ part → (unsigned (Message.PrePrepare x) ≡ part) ⊎ StatementHeard full part
-        → IsWholeOrInside full (with_sig sig (Message.PrePrepare x)) part
-    quoted y e (inl s) = absurd cc
-    quoted y e (inr h) = inr h
-parts_are me sig (Message.Prepare x) full v quoting part (inl e) = inl e
-parts_are me sig (Message.Prepare x) full v quoting part (inr none) = absurd none
-parts_are me sig (Message.Commit x) full v quoting part (inl e) = inl e
-parts_are me sig (Message.Commit x) full v quoting part (inr none) = absurd none
-parts_are me sig (Message.Checkpoint x) full v quoting part (inl e) = inl e
-parts_are me sig (Message.Checkpoint x) full v quoting part (inr none) = absurd none
-parts_are me sig (Message.ReplyNote x) full v quoting part (inl e) = inl e
-parts_are me sig (Message.ReplyNote x) full v quoting part (inr none) = absurd none
-parts_are me sig (Message.Request x) full v quoting part i = absurd v
-parts_are me sig (Message.ViewChange x) full v quoting part i = absurd v
-parts_are me sig (Message.NewView x) full v quoting part i = absurd v
-parts_are me sig (Message.Drvc x) full v quoting part i = absurd v
-parts_are me sig (Message.Rvc x) full v quoting part i = absurd v
-parts_are me sig (Message.Share x) full v quoting part i = absurd v
-parts_are me sig (Message.Fetch x) full v quoting part i = absurd v
-
-still_own : (me : ReplicaId) (sig : List ℕ) (x : Message) → IsVoice me x → is_own me (signer_of (with_sig sig x)) ≡ true
-still_own me sig (Message.PrePrepare x) v = voice_is_own me (Message.PrePrepare x) v
-still_own me sig (Message.Prepare x) v = voice_is_own me (Message.Prepare x) v
-still_own me sig (Message.Commit x) v = voice_is_own me (Message.Commit x) v
-still_own me sig (Message.Checkpoint x) v = voice_is_own me (Message.Checkpoint x) v
-still_own me sig (Message.ReplyNote x) v = voice_is_own me (Message.ReplyNote x) v
-still_own me sig (Message.Request x) v = absurd v
-still_own me sig (Message.ViewChange x) v = absurd v
-still_own me sig (Message.NewView x) v = absurd v
-still_own me sig (Message.Drvc x) v = absurd v
-still_own me sig (Message.Rvc x) v = absurd v
-still_own me sig (Message.Share x) v = absurd v
-still_own me sig (Message.Fetch x) v = absurd v
-
 -- ---- what was heard before stays so
 
 pub before_still : (origin : Origin) (a b : ℕ) → a ≤ b → IsBefore origin a → IsBefore origin b
@@ -180,54 +107,55 @@ earlier_still journal more a b x le h = record {
 -- ---- what stays along a journal
 
 record Stays (m : Maker) (earlier : List Entry) (s : Replica) (past : List diaries.Entry) : Type 0 where
-  related : AreRelated m.roster m.id s past
-  voices : AreVoices m.id s.outbox
+  sound : sending.Stays m s past
   heard : (x : Message) → In (Heard x) past → IsEarlier earlier (clock m earlier) x
 
--- a message as it is sent: it has a spelling, the replica signs it, and each other part of it was heard before
-record IsReady (m : Maker) (earlier : List Entry) (x : Message) : Type 0 where
-  has_spelling : fits x ≡ true
-  own : is_own m.id (signer_of x) ≡ true
-  parts : (part : Message) → In part (parts_of x) → (x ≡ part) ⊎ IsQuoted earlier (clock m earlier) part
+-- a message as it is sent: each statement in it is this one, which the replica signs, or was heard before
+abbrev IsReady : Maker → List Entry → Message → Type 0
+IsReady m earlier x =
+    (part : Message) → In part (statements_of x) → ((x ≡ part) × (is_own m.id (signer_of x) ≡ true)) ⊎ IsQuoted earlier (clock m earlier) part
 
-item_ready : (m : Maker) (earlier : List Entry) (s : Replica) (past : List diaries.Entry) (k : ℕ) (o : List Item) → IsKeyed m
-    → Stays m earlier s past → s.outbox ≡ o → makes_entry (emit_step m.id s [] o).answer ≡ true
-    → (needs_leaf m.id (first_of o) ≡ true → k < m.leaves) → IsReady m earlier (item_by m k (first_of o)).message
-item_ready m earlier s past k [] keyed st e h left = absurd cc
-item_ready m earlier s past k (x ∷ rest) keyed st e h left =
-    let here : In x s.outbox = subst (In x) (sym e) (inl refl) in
-    let voice = st.voices x here in
-    let own = voice_is_own m.id x.message voice in
-    let said = waiting_said m.id past s.outbox x here own in
-    let full = full_of m.id s past in
-    let shaped = (ruled.kept m.roster m.id full (Said (unsigned x.message)) st.related.rules said).may.shaped_speech in
-    let sig = m.signature k (content_of x.message) in
-    let whole : IsReady m earlier (with_sig sig x.message) =
-    record {
-      has_spelling = spelled_again m.id sig x.message voice (keyed.fits k (content_of x.message) (left own)) shaped.spelled;
-      own = still_own m.id sig x.message voice;
-      parts = λ part i.
-          (elim (parts_are m.id sig x.message full voice (st.related.local.quoted (unsigned x.message) said) part i) [
-            | inl same ↦ inl same
-            | inr heard ↦ inr (record {
-              message = heard.message;
-              heard = st.heard heard.message (heard_before past (statements_in m.id s.outbox) heard.message heard.heard);
-              inside = (of_filter (λ y. is_some (signer_of y)) part (parts_of heard.message) heard.inside).0;
-            })
-          ]);
-    } in
-    let draft : draft_of m.id x ≡ content_of x.message = ap (λ (b : Bool). cond b (content_of x.message) []) own in
-    let sent : (sent_item m.id (m.signature k (draft_of m.id x)) x).message ≡ with_sig (m.signature k (content_of x.message)) x.message =
-    ap (λ (b : Bool). cond b (with_sig (m.signature k (draft_of m.id x)) x.message) x.message) own
-    ∙ ap (λ (c : List ℕ). with_sig (m.signature k c) x.message) draft in
-    subst (IsReady m earlier) (sym sent) whole
+item_ready : (m : Maker) (earlier : List Entry) (s : Replica) (past : List diaries.Entry) (k : ℕ) (o : List Item)
+    → Stays m earlier s past → s.outbox ≡ o → makes_entry (emit_step m.id s [] o).answer ≡ true → IsReady m earlier (item_by m k (first_of o)).message
+item_ready m earlier s past k [] st e h = absurd cc
+item_ready m earlier s past k (x ∷ rest) st e h =
+    elim (facts.waits x here).from as (λ _. IsReady m earlier (sent_item m.id sig x).message) [
+      | inl own ↦ subst (IsReady m earlier) (sym (sent_as true own)) (λ part i.
+          (elim (signed_statements sig x.message full
+          (facts.local.quoted (unsigned x.message) (waiting_said m.id past s.outbox x here own)) part i) [
+            | inl same ↦ inl (same, ap (is_own m.id) (said_signed sig x.message).0 ∙ own)
+            | inr heard ↦ inr (quoted part heard)
+          ]))
+      | inr passed ↦ subst (IsReady m earlier) (sym (sent_as false passed.0)) (λ part i. inr (quoted part (passed.1.heard part i)))
+    ]
+  where
+    here : In x s.outbox
+    here = subst (In x) (sym e) (inl refl)
 
-next_ready : (m : Maker) (earlier : List Entry) (past : List diaries.Entry) → IsKeyed m → Stays m earlier (state m earlier) past
+    sig : List ℕ
+    sig = m.signature k (draft_of m.id x)
+
+    full : List diaries.Entry
+    full = full_of m.id s past
+
+    facts : AreFactsOf m.roster m.id s past
+    facts = st.sound.related.facts
+
+    quoted : (part : Message) → StatementHeard full part → IsQuoted earlier (clock m earlier) part
+    quoted part heard = record {
+      message = heard.message;
+      heard = st.heard heard.message (heard_before past (statements_in m.id s.outbox) heard.message heard.heard);
+      inside = (of_filter (λ y. is_some (signer_of y)) part (parts_of heard.message) heard.inside).0;
+    }
+
+    sent_as : (b : Bool) → is_own m.id (signer_of x.message) ≡ b → (sent_item m.id sig x).message ≡ cond b (with_sig sig x.message) x.message
+    sent_as b q = ap (λ (b : Bool). cond b (with_sig sig x.message) x.message) q
+
+next_ready : (m : Maker) (earlier : List Entry) (past : List diaries.Entry) → Stays m earlier (state m earlier) past
     → moves m earlier Mover.Emit ≡ true → IsReady m earlier (next_item m earlier).message
 unfolding next_item
-next_ready m earlier past keyed st h =
-    item_ready m earlier (state m earlier) past (length (signed_of m earlier)) (state m earlier).outbox keyed st refl
-    (emits m earlier h) (leaf_left m earlier h)
+next_ready m earlier past st h =
+    item_ready m earlier (state m earlier) past (length (signed_of m earlier)) (state m earlier).outbox st refl (emits m earlier h)
 
 -- ---- an entry more
 
@@ -256,6 +184,7 @@ heard_more m earlier s e now past old x h = go e h
     go Entry.Nudged i = still Entry.Nudged i
     go (Entry.Sent item) i = still (Entry.Sent item) (sent_heard m.id s.outbox past x i)
     go Entry.Marked i = still Entry.Marked i
+    go Entry.TimedOut i = still Entry.TimedOut i
     go Entry.Executed i = still Entry.Executed (heard_before_blocks past (drop (length s.rounds.blocks) now.rounds.blocks) x i)
 
 stays_more : (m : Maker) (earlier : List Entry) (s : Replica) (past : List diaries.Entry) (e : Entry) → IsWithinLimits m.roster
@@ -263,8 +192,7 @@ stays_more : (m : Maker) (earlier : List Entry) (s : Replica) (past : List diari
     → Stays m (earlier ++ e ∷ []) (step m.roster m.id s (event_of e)).state
     (diary_after m.id s (event_of e) (step m.roster m.id s (event_of e)).state past)
 stays_more m earlier s past e limits member h st = record {
-  related = step_keeps m.roster m.id s past (event_of e) limits member (may_be m e h) st.related;
-  voices = step_voices m.roster m.id s (event_of e) st.voices;
+  sound = sending.stays_more m s past e limits member h st.sound;
   heard = heard_more m earlier s e (step m.roster m.id s (event_of e)).state past st.heard;
 }
 
@@ -276,19 +204,23 @@ signed_still : (m : Maker) (journal more : List Entry) (content : List ℕ) → 
 signed_still m journal [] content h = subst (λ (l : List Entry). In content (signed_of m l)) (sym (append-nil journal)) h
 signed_still m journal (e ∷ more) content h =
     let one : In content (signed_of m (journal ++ e ∷ [])) =
-    subst (In content) (sym (ap (λ (w : Walk). w.signed) (walk_more m journal e))) (in_append_left content (signed_of m journal) (signed_by m e) h) in
+    subst (In content) (sym (ap (λ (w : Walk). w.signed) (walk_more m journal e))) (in_append_left content (signed_of m journal) (signed_by m (walk m journal) e) h) in
     subst (λ (l : List Entry). In content (signed_of m l)) (append_assoc journal (e ∷ []) more) (signed_still m (journal ++ e ∷ []) more content one)
 
-signed_here : (m : Maker) (item : Item) → is_own m.id (signer_of item.message) ≡ true
-    → In (content_of item.message) (signed_by m (Entry.Sent item))
-unfolding signed_by
-signed_here m item h = subst (λ (b : Bool). In (content_of item.message) (cond b (content_of item.message ∷ []) [])) (sym h) (inl refl)
+signed_here : (m : Maker) (w : Walk) (item : Item) → is_own m.id (signer_of item.message) ≡ true
+    → In (content_of item.message) (signed_by m w (Entry.Sent item))
+unfolding signed_by stated_by
+signed_here m w item h =
+    let content = content_of item.message in
+    in_append_left content (cond (is_own m.id (signer_of item.message)) (content ∷ []) []) (signed_beside m (length w.signed) (Entry.Sent item))
+    (subst (λ (b : Bool). In content (cond b (content ∷ []) [])) (sym h) (inl refl))
 
 signed_now : (m : Maker) (earlier : List Entry) (item : Item) → is_own m.id (signer_of item.message) ≡ true
     → In (content_of item.message) (signed_of m (earlier ++ Entry.Sent item ∷ []))
 signed_now m earlier item h =
+    let w = walk m earlier in
     subst (In (content_of item.message)) (sym (ap (λ (w : Walk). w.signed) (walk_more m earlier (Entry.Sent item))))
-    (in_append_right (content_of item.message) (signed_of m earlier) (signed_by m (Entry.Sent item)) (signed_here m item h))
+    (in_append_right (content_of item.message) (signed_of m earlier) (signed_by m w (Entry.Sent item)) (signed_here m w item h))
 
 own_or_still : (m : Maker) (journal more : List Entry) (time : ℕ) (part : Message) → IsOwnOrQuoted m journal time part
     → IsOwnOrQuoted m (journal ++ more) time part
@@ -308,20 +240,20 @@ carried_still m journal more q h = record {
   each = λ part i. own_or_still m journal more q.time part (h.each part i);
 }
 
-carried_by : (m : Maker) (earlier : List Entry) (item : Item) (q : Parcel) → IsReady m earlier item.message → q.time ≡ clock m earlier
-    → q.bytes ≡ spelling_of item.message → IsCarried m (earlier ++ Entry.Sent item ∷ []) q
-carried_by m earlier item q ready time bytes = record {
+carried_by : (m : Maker) (earlier : List Entry) (item : Item) (q : Parcel) → fits item.message ≡ true → IsReady m earlier item.message
+    → q.time ≡ clock m earlier → q.bytes ≡ spelling_of item.message → IsCarried m (earlier ++ Entry.Sent item ∷ []) q
+carried_by m earlier item q spells ready time bytes = record {
   message = item.message;
-  has_spelling = ready.has_spelling;
+  has_spelling = spells;
   spelled = bytes;
-  each = λ part i. go part (ready.parts part i);
+  each = λ part i. go part (ready part i);
 }
   where
-    go : (part : Message) → (item.message ≡ part) ⊎ IsQuoted earlier (clock m earlier) part
+    go : (part : Message) → ((item.message ≡ part) × (is_own m.id (signer_of item.message) ≡ true)) ⊎ IsQuoted earlier (clock m earlier) part
         → IsOwnOrQuoted m (earlier ++ Entry.Sent item ∷ []) q.time part
     go part (inl e) =
-        inl (subst (λ (p : Message). (is_own m.id (signer_of p) ≡ true) × In (content_of p) (signed_of m (earlier ++ Entry.Sent item ∷ []))) e
-        (ready.own, signed_now m earlier item ready.own))
+        inl (subst (λ (p : Message). (is_own m.id (signer_of p) ≡ true) × In (content_of p) (signed_of m (earlier ++ Entry.Sent item ∷ []))) e.0
+        (e.1, signed_now m earlier item e.1))
     go part (inr h) =
         inr (record {
           message = h.message;
@@ -329,28 +261,31 @@ carried_by m earlier item q ready time bytes = record {
           inside = h.inside;
         })
 
-new_carried : (m : Maker) (earlier : List Entry) (past : List diaries.Entry) (e : Entry) → IsKeyed m → Stays m earlier (state m earlier) past
-    → IsNext m earlier e → (q : Parcel) → In q (added m (walk m earlier) e) → IsCarried m (earlier ++ e ∷ []) q
-unfolding added
-new_carried m earlier past (Entry.Sent item) keyed st n q i =
-    let p = put_is (clock m earlier) (spelling_of item.message) (parcels_of m earlier) item.to q i in
-    carried_by m earlier item q (subst (λ (x : Item). IsReady m earlier x.message) (sym n.1) (next_ready m earlier past keyed st n.0)) p.0 p.1
-new_carried m earlier past (Entry.Heard origin x) keyed st n q i = absurd i
-new_carried m earlier past Entry.Proposed keyed st n q i = absurd i
-new_carried m earlier past Entry.Nudged keyed st n q i = absurd i
-new_carried m earlier past Entry.Executed keyed st n q i = absurd i
-new_carried m earlier past Entry.Marked keyed st n q i = absurd i
+new_carried : (m : Maker) (earlier : List Entry) (past : List diaries.Entry) (e : Entry) → m.fault ≡ None → IsKeyed m
+    → Stays m earlier (state m earlier) past → IsNext m earlier e → (q : Parcel) → In q (added m (walk m earlier) e) → IsCarried m (earlier ++ e ∷ []) q
+new_carried m earlier past e plain keyed st n q i =
+    let of = added_bytes m (walk m earlier) e q i in
+    let sent = copies_are_sent m (walk m earlier) e of.copy of.is_in in
+    subst (λ (x : Entry). IsCarried m (earlier ++ x ∷ []) q) (sym sent.1)
+    (go sent.0 (subst (λ (x : Entry). In q (added m (walk m earlier) x)) sent.1 i) (subst (IsNext m earlier) sent.1 n))
+  where
+    go : (item : Item) → In q (added m (walk m earlier) (Entry.Sent item)) → IsNext m earlier (Entry.Sent item) → IsCarried m (earlier ++ Entry.Sent item ∷ []) q
+    go item j next =
+        let p = put_is m (walk m earlier) item q plain j in
+        let whole = subst (λ (x : Item). IsSound m.roster m.ring x.message) (sym next.1) (next_sound m earlier past keyed st.sound next.0) in
+        carried_by m earlier item q whole.spelled
+        (subst (λ (x : Item). IsReady m earlier x.message) (sym next.1) (next_ready m earlier past st next.0)) p.0 p.1
 
 -- ---- the whole
 
 abbrev AreCarried : Maker → List Entry → Type 0
 AreCarried m journal = (q : Parcel) → In q (parcels_of m journal) → IsCarried m journal q
 
-carried_from : (m : Maker) (earlier rest : List Entry) (past : List diaries.Entry) → IsWithinLimits m.roster
+carried_from : (m : Maker) (earlier rest : List Entry) (past : List diaries.Entry) → m.fault ≡ None → IsWithinLimits m.roster
     → IsTrue (is_replica m.roster m.id) → IsKeyed m → IsMadeFrom m earlier rest → AreSound m rest → Stays m earlier (state m earlier) past
     → AreCarried m earlier → AreCarried m (earlier ++ rest)
-carried_from m earlier [] past limits member keyed made sound st old = subst (AreCarried m) (sym (append-nil earlier)) old
-carried_from m earlier (e ∷ rest) past limits member keyed made sound st old =
+carried_from m earlier [] past plain limits member keyed made sound st old = subst (AreCarried m) (sym (append-nil earlier)) old
+carried_from m earlier (e ∷ rest) past plain limits member keyed made sound st old =
     let now = (step m.roster m.id (state m earlier) (event_of e)).state in
     let grown = diary_after m.id (state m earlier) (event_of e) now past in
     let st_now : Stays m (earlier ++ e ∷ []) (state m (earlier ++ e ∷ [])) grown =
@@ -359,20 +294,22 @@ carried_from m earlier (e ∷ rest) past limits member keyed made sound st old =
     let all : AreCarried m (earlier ++ e ∷ []) =
     λ q i. (elim (in_append_cases q (parcels_of m earlier) (added m (walk m earlier) e) (subst (In q) (parcels_more m earlier e) i)) [
       | inl k ↦ carried_still m earlier (e ∷ []) q (old q k)
-      | inr k ↦ new_carried m earlier past e keyed st made.0 q k
+      | inr k ↦ new_carried m earlier past e plain keyed st made.0 q k
     ]) in
     subst (AreCarried m) (append_assoc earlier (e ∷ []) rest)
-    (carried_from m (earlier ++ e ∷ []) rest grown limits member keyed made.1 sound.1 st_now all)
+    (carried_from m (earlier ++ e ∷ []) rest grown plain limits member keyed made.1 sound.1 st_now all)
 
 none_put : (m : Maker) → AreCarried m []
 unfolding walk
 none_put m q i = absurd i
 
--- whatever a kept trace put carries what its replica signed or heard before
-pub carried : (m : Maker) (t : Trace) → IsWithinLimits m.roster → IsTrue (is_replica m.roster m.id) → IsKeyed m → Kept m t
+-- whatever a kept trace of a correct replica put carries what its replica signed or heard before
+pub carried : (m : Maker) (t : Trace) → m.fault ≡ None → IsWithinLimits m.roster → IsTrue (is_replica m.roster m.id) → IsKeyed m → Kept m t
     → (q : Parcel) → In q t.parcels → IsCarried m t.journal q
-carried m t limits member keyed kept q i =
+carried m t plain limits member keyed kept q i =
     let first : Stays m [] (state m []) [] =
-    subst (λ (s : Replica). Stays m [] s []) (sym (fresh_is m))
-    (record { related = starts_related m.roster m.id limits member; voices = λ x h. absurd h; heard = λ x h. absurd h }) in
-    carried_from m [] t.journal [] limits member keyed kept.replays kept.sound first (none_put m) q (subst (In q) kept.parcels i)
+    subst (λ (s : Replica). Stays m [] s []) (sym (fresh_is m)) (record {
+      sound = record { member = is_member m.roster m.id limits member; related = starts_related m.roster m.id limits member; heard = λ x h. absurd h };
+      heard = λ x h. absurd h;
+    }) in
+    carried_from m [] t.journal [] plain limits member keyed kept.replays kept.sound first (none_put m) q (subst (In q) kept.parcels i)

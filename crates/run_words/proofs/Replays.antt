@@ -118,6 +118,7 @@ same_entry m earlier (Entry.Sent sent) now past h = ap (λ (i : Item). after_say
     ∙ same_sent m earlier past h.0
 same_entry m earlier Entry.Executed now past h = refl
 same_entry m earlier Entry.Marked now past h = refl
+same_entry m earlier Entry.TimedOut now past h = refl
 
 -- ---- the whole
 
@@ -153,6 +154,7 @@ may_come m (Entry.Nudged ∷ rest) h e (inl q) = subst (MayCome m.roster) q tt
 may_come m (Entry.Sent sent ∷ rest) h e (inl q) = subst (MayCome m.roster) q tt
 may_come m (Entry.Executed ∷ rest) h e (inl q) = subst (MayCome m.roster) q tt
 may_come m (Entry.Marked ∷ rest) h e (inl q) = subst (MayCome m.roster) q tt
+may_come m (Entry.TimedOut ∷ rest) h e (inl q) = subst (MayCome m.roster) q tt
 may_come m (x ∷ rest) h e (inr i) = may_come m rest h.1 e i
 
 pub honest_journal : (m : Maker) (journal : List Entry) → IsWithinLimits m.roster → IsTrue (is_replica m.roster m.id) → IsMade m journal

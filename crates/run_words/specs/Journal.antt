@@ -1,6 +1,6 @@
 -- What a journal tells. Each word is a walk from its first entry to its last, or is read off such a walk.
-use Rattle.std.specs.Prelude.{◌≡◌, ℕ, ◌+◌, max, nat_le, Bool, true, false, not, ◌&&◌, List, [], ◌∷◌, ◌++◌, map, length, drop, Option, Some, None, Result, Err, if◌then◌else◌}
-use Rattle.std.specs.List.{fold, count_by}
+use Rattle.std.specs.Prelude.{◌≡◌, ℕ, ◌+◌, ◌++◌, max, nat_le, nat_eq, cond, Bool, true, false, not, ◌&&◌, List, [], ◌∷◌, map, length, drop, Option, Some, None, Result, Err, if◌then◌else◌}
+use Rattle.std.specs.List.{fold, flat_map}
 use Rattle.fab_base.specs.Fields.{are_bytes}
 use Rattle.fab_base.specs.Limits.{Roster}
 use Rattle.fab_base.specs.declared.ids.ReplicaId.{ReplicaId}
@@ -10,20 +10,22 @@ use Rattle.fab_codec.specs.declared.faults.CodeFault.{CodeFault}
 use Rattle.fab_rules.specs.Diary as diaries
 use Rattle.fab_rules.specs.Diary.{Heard, Said, Did}
 use Rattle.fab_rules.specs.Growth.{after_saying}
-use Rattle.fab_rules.specs.Spelling.{spelling_of, content_of}
+use Rattle.fab_rules.specs.Spelling.{content_of}
 use Rattle.fab_rules.specs.Statements.{signer_of}
 use Rattle.fab_machine.specs.State.{Replica, fresh}
-use Rattle.fab_machine.specs.Items.{is_own, sent_item, draft_of, statements_by}
+use Rattle.fab_machine.specs.Items.{is_own, with_sig, sent_item, draft_of, statements_by}
 use Rattle.fab_machine.specs.Step as machine
 use Rattle.fab_machine.specs.Step.{Event, step, first}
 use Rattle.fab_machine.specs.Diaries.{state_of, diary_did}
+use Rattle.fault_script.specs.declared.twists.Fault.{Fault}
+use Rattle.fault_script.specs.declared.twists.Loss.{Loss}
 use Rattle.msg_read.specs.Reading.{reading_of}
 use Rattle.bft_verify.specs.declared.refusals.Refusal.{Refusal}
 use Rattle.bft_verify.specs.Answers.{judged_as_read}
 use Rattle.bft_verify.specs.Ring.{Ring}
 use Rattle.bft_verify.specs.Sound.{IsSound, signature_of}
 use Rattle.run_words.specs.declared.movers.Mover.{Mover}
-use Rattle.run_words.specs.Keyed.{is_same}
+use Rattle.run_words.specs.Twists.{Copy, is_beside, is_proposal, null_of, copies_from, shares_of, put}
 use Rattle.run_words.specs.declared.logs.Origin.{Origin}
 use Rattle.run_words.specs.declared.logs.Entry.{Entry}
 use Rattle.run_words.specs.declared.logs.Parcel.{Parcel}
@@ -33,9 +35,19 @@ pub record Maker : Type 0 where
   pub id : ReplicaId
   pub roster : Roster
   pub ring : Ring
+  -- what is lost and repeated in the run
+  pub losses : List Loss
+  -- how it is faulty, where it is
+  pub fault : Option Fault
+  -- what else was signed beside what was said, by its place among what was signed
+  pub seconds : List (ℕ × List ℕ)
   -- how many signatures its key gives, and the one of a content as number k, from 0
   pub leaves : ℕ
   pub signature : ℕ → List ℕ → List ℕ
+
+-- the same, that signed one content more beside what it said
+abbrev pub with_second : Maker → ℕ → List ℕ → Maker
+with_second m n c = record m { seconds = m.seconds ++ (n, c) ∷ [] }
 
 -- ---- the machine after the journal
 
@@ -47,6 +59,7 @@ event_of Entry.Nudged = Event.Nudge
 event_of (Entry.Sent item) = Event.Emit (signature_of item.message)
 event_of Entry.Executed = Event.Execute
 event_of Entry.Marked = Event.Checkpoint
+event_of Entry.TimedOut = Event.Timeout
 
 unfoldable pub state : Maker → List Entry → Replica
 state m journal = state_of m.roster m.id (map event_of journal)
@@ -89,38 +102,62 @@ abbrev pub tick : ℕ → Entry → ℕ
 tick c (Entry.Heard origin x) = tick_by c origin
 tick c e = c
 
--- ---- parcels
-
--- a copy of these bytes for each receiver, in order, numbered for each from 0
-abbrev pub put : ℕ → List ℕ → List Parcel → List ReplicaId → List Parcel
-put time bytes earlier [] = []
-put time bytes earlier (to ∷ rest) =
-    let p : Parcel = record { to = to; number = count_by (λ q. is_same to q.to) earlier; time = time; bytes = bytes; passes = 1 } in
-    p ∷ put time bytes (earlier ++ p ∷ []) rest
-
 -- ---- one walk for what grows
 
 pub record Walk : Type 0 where
   pub clock : ℕ
   pub parcels : List Parcel
+  -- the receivers of the certificates among the parcels
+  pub shares : List ReplicaId
   -- the contents that were signed
   pub signed : List (List ℕ)
 
+-- the null proposal that is signed beside a message of the replica's own whose signature has this number, by the next leaf
+unfoldable pub null_beside : Maker → ℕ → Message → Option Message
+null_beside m k x =
+    if is_beside m.id m.leaves m.fault k x then Some (with_sig (m.signature (k + 1) (content_of (null_of x))) (null_of x)) else None
+
+-- the copies that an entry puts
+unfoldable pub copies : Maker → Walk → Entry → List Copy
+copies m w (Entry.Sent item) =
+    copies_from m.fault (is_proposal m.id item.message) (null_beside m (length w.signed) item.message) item.message item.to
+copies m w e = []
+
 -- the parcels that an entry adds
 unfoldable pub added : Maker → Walk → Entry → List Parcel
-added m w (Entry.Sent item) = put w.clock (spelling_of item.message) w.parcels item.to
-added m w e = []
+added m w e = put m.id m.losses m.fault w.clock w.parcels w.shares (copies m w e)
 
--- what is signed for an entry: the content of an item that the replica itself signs
-unfoldable pub signed_by : Maker → Entry → List (List ℕ)
-signed_by m (Entry.Sent item) = if is_own m.id (signer_of item.message) then content_of item.message ∷ [] else []
-signed_by m e = []
+-- what a replica says by an entry: the content of an item that it signs itself
+unfoldable pub stated_by : Maker → Entry → List (List ℕ)
+stated_by m (Entry.Sent item) = if is_own m.id (signer_of item.message) then content_of item.message ∷ [] else []
+stated_by m e = []
+
+-- what stands at a place
+abbrev pub second_at : ℕ → List (ℕ × List ℕ) → List (List ℕ)
+second_at k [] = []
+second_at k (p ∷ rest) = cond (nat_eq p.0 k) (p.1 ∷ []) (second_at k rest)
+
+-- what it signs beside that, the own signature having this number
+unfoldable pub signed_beside : Maker → ℕ → Entry → List (List ℕ)
+signed_beside m k (Entry.Sent item) =
+    if is_beside m.id m.leaves m.fault k item.message then content_of (null_of item.message) ∷ []
+    else if is_own m.id (signer_of item.message) then second_at (k + 1) m.seconds else []
+signed_beside m k e = []
+
+-- what is signed for an entry
+unfoldable pub signed_by : Maker → Walk → Entry → List (List ℕ)
+signed_by m w e = stated_by m e ++ signed_beside m (length w.signed) e
 
 abbrev pub after_entry : Maker → Walk → Entry → Walk
-after_entry m w e = record { clock = tick w.clock e; parcels = w.parcels ++ added m w e; signed = w.signed ++ signed_by m e }
+after_entry m w e = record {
+  clock = tick w.clock e;
+  parcels = w.parcels ++ added m w e;
+  shares = w.shares ++ shares_of (copies m w e);
+  signed = w.signed ++ signed_by m w e;
+}
 
 unfoldable pub walk : Maker → List Entry → Walk
-walk m journal = fold (after_entry m) (record { clock = 0; parcels = []; signed = [] }) journal
+walk m journal = fold (after_entry m) (record { clock = 0; parcels = []; shares = []; signed = [] }) journal
 
 abbrev pub clock : Maker → List Entry → ℕ
 clock m journal = (walk m journal).clock
@@ -130,6 +167,10 @@ parcels_of m journal = (walk m journal).parcels
 
 abbrev pub signed_of : Maker → List Entry → List (List ℕ)
 signed_of m journal = (walk m journal).signed
+
+-- what it said, entry by entry
+abbrev pub stated : Maker → List Entry → List (List ℕ)
+stated m journal = flat_map (stated_by m) journal
 
 -- ---- what may come next
 
@@ -149,6 +190,7 @@ moves m journal Mover.Nudge = machine.moves m.roster m.id (state m journal) Even
 moves m journal Mover.Emit = machine.moves m.roster m.id (state m journal) (Event.Emit []) && not (is_blocked m journal)
 moves m journal Mover.Execute = machine.moves m.roster m.id (state m journal) Event.Execute
 moves m journal Mover.Checkpoint = machine.moves m.roster m.id (state m journal) Event.Checkpoint
+moves m journal Mover.Timeout = machine.moves m.roster m.id (state m journal) Event.Timeout
 
 -- nothing, for nobody
 abbrev pub no_item : Item
@@ -170,6 +212,7 @@ entry_of m journal Mover.Nudge = Entry.Nudged
 entry_of m journal Mover.Emit = Entry.Sent (next_item m journal)
 entry_of m journal Mover.Execute = Entry.Executed
 entry_of m journal Mover.Checkpoint = Entry.Marked
+entry_of m journal Mover.Timeout = Entry.TimedOut
 
 -- the next entry is one that the machine makes after these. Hearing always makes one
 abbrev pub IsNext : Maker → List Entry → Entry → Type 0
@@ -179,6 +222,7 @@ IsNext m journal Entry.Nudged = moves m journal Mover.Nudge ≡ true
 IsNext m journal (Entry.Sent sent) = (moves m journal Mover.Emit ≡ true) × (sent ≡ next_item m journal)
 IsNext m journal Entry.Executed = moves m journal Mover.Execute ≡ true
 IsNext m journal Entry.Marked = moves m journal Mover.Checkpoint ≡ true
+IsNext m journal Entry.TimedOut = moves m journal Mover.Timeout ≡ true
 
 abbrev pub IsMadeFrom : Maker → List Entry → List Entry → Type 0
 IsMadeFrom m earlier [] = Unit {0}

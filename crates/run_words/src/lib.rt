@@ -23,16 +23,18 @@ mod logs;
 mod making;
 mod movers;
 mod party;
+mod passing;
 
 pub use ends::{End, Evidence};
 pub use fault_script::Fault;
 pub use laws::{
-    clock_law, honest_law, one_schedule_law, parcel_law, reading_law, run_example, run_law,
-    signing_law, told_law,
+    beside_law, clock_law, honest_law, one_schedule_law, parcel_law, reading_law, run_example,
+    run_law, signing_law, told_law, twisted_law,
 };
 pub use logs::{
-    Contents, Entry, Journal, Origin, Parcel, Parcels, Pending, Trace, Traces, Transcript, Turned,
-    TurnedList,
+    Contents, Counts, Entry, Journal, Moment, Moments, Origin, Parcel, Parcels, Pending, Trace,
+    Traces, Transcript, Turned, TurnedList,
 };
 pub use movers::Mover;
 pub use party::{Act, Party, Told};
+pub use passing::passes;

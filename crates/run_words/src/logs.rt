@@ -33,6 +33,8 @@ pub enum Entry {
     Executed,
     /// A Checkpoint was put, or the low mark moved.
     Marked,
+    /// A timeout came to something.
+    TimedOut,
 }
 
 /// The entries of a replica, in the order in which they were made.
@@ -106,6 +108,21 @@ pub struct Trace {
 /// One trace for each replica, by id.
 pub type Traces = Rows<Trace>;
 
+/// The number of entries of each replica's journal, by id.
+pub type Counts = Rows<u64>;
+
+/// A quiet moment: nothing was on its way, and nobody could move of its own accord.
+#[derive(Debug, Drop)]
+pub struct Moment {
+    /// How many entries each journal had.
+    pub entries: Counts,
+    /// Whether it ended in timeouts: nobody could be nudged, and there was patience left.
+    pub timed: bool,
+}
+
+/// Quiet moments, in order.
+pub type Moments = Rows<Moment>;
+
 /// A whole run.
 #[derive(Debug, Drop)]
 pub struct Transcript {
@@ -113,6 +130,8 @@ pub struct Transcript {
     pub script: Script,
     /// What its replicas left behind.
     pub traces: Traces,
-    /// How many timeouts the script still has patience for. There are none yet: it is 0.
+    /// Its quiet moments.
+    pub moments: Moments,
+    /// How many more quiet moments might have ended in timeouts.
     pub timeouts_left: u32,
 }

@@ -15,6 +15,7 @@ impl Transcript {
         Transcript {
             script: Script::empty(alloc),
             traces: Rows::new(alloc),
+            moments: Rows::new(alloc),
             timeouts_left: 0,
         }
     }

@@ -25,6 +25,8 @@ pub enum Act {
     Execute,
     /// Put a Checkpoint that is due, or else move the low mark.
     Checkpoint,
+    /// A timeout.
+    Timeout,
 }
 
 /// What a party answers.

@@ -1,2 +1,2 @@
 mod Starting
-mod Ready
+pub mod Ready

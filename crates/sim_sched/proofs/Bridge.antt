@@ -12,7 +12,7 @@ use Rattle.bft_verify.specs.declared.refusals.Refusal.{Refusal}
 use Rattle.run_words.specs.Keyed.{is_same, of}
 use Rattle.run_words.specs.Journal.{Maker, walk, added, moves, entry_of, reads}
 use Rattle.run_words.specs.Lawful.{IsApart, AreApart}
-use Rattle.run_words.specs.Runs.{Rules, Run, Step, journal_in, waiting_in, copy_of, with_entry, give, hear, hear_by, taken_out, steps_of, steps_from, take_step, declined, declined_in, turned_of, Declined}
+use Rattle.run_words.specs.Runs.{Rules, Run, Step, journal_in, waiting_in, copies_of, with_entry, give, hear, hear_by, taken_out, steps_of, steps_from, take_step, declined, declined_in, turned_of, Declined}
 use Rattle.run_words.proofs.Keys.{other_turned, same_self, of_more, of_kept, of-append, of_without, of_without_other}
 use Rattle.run_words.proofs.Counts.{IsIn}
 use Rattle.run_words.proofs.Steps.{IsStep}
@@ -96,17 +96,17 @@ entered_there n m e run h =
     ap f (of_kept n.id m.id run.done e h)
 
 put_there : (n m : Maker) (e : Entry) (run : Run)
-    → receive (map (copy_of m.id) (added m (walk m (journal_in run m)) e)) (seat_in (done_more m e run) n) ≡ seat_in (with_entry m e run) n
+    → receive (flat_map (copies_of m.id) (added m (walk m (journal_in run m)) e)) (seat_in (done_more m e run) n) ≡ seat_in (with_entry m e run) n
 unfolding with_entry
 put_there n m e run =
     let f : List Pending → SeatView = λ l. record (seat_in (done_more m e run) n) { way = l } in
-    ap f (sym (of-append n.id run.way (map (copy_of m.id) (added m (walk m (journal_in run m)) e))))
+    ap f (sym (of-append n.id run.way (flat_map (copies_of m.id) (added m (walk m (journal_in run m)) e))))
 
 entered : (r : Rules) (run : Run) (k : ℕ) (m : Maker) (e : Entry) → AreApart r.makers → IsPlaced k r.makers m
-    → map (receive (map (copy_of m.id) (added m (walk m (journal_in run m)) e)))
+    → map (receive (flat_map (copies_of m.id) (added m (walk m (journal_in run m)) e)))
     (set (map (seat_in run) r.makers) k (with_one e (seat_in run m))) ≡ map (seat_in (with_entry m e run)) r.makers
 entered r run k m e a p =
-    let copies = map (copy_of m.id) (added m (walk m (journal_in run m)) e) in
+    let copies = flat_map (copies_of m.id) (added m (walk m (journal_in run m)) e) in
     ap (map (receive copies))
     (set_mapped (seat_in run) (seat_in (done_more m e run)) r.makers k m (with_one e (seat_in run m)) a p (entered_here m e run)
     (λ n h. entered_there n m e run h))
@@ -126,7 +126,7 @@ given_is r run k m mover a p = go (moves m (journal_in run m) mover)
     e = entry_of m (journal_in run m) mover
 
     go : (b : Bool)
-        → map (receive (map (copy_of m.id) (cond b (added m (walk m (journal_in run m)) (entry_of m (journal_in run m) mover)) [])))
+        → map (receive (flat_map (copies_of m.id) (cond b (added m (walk m (journal_in run m)) (entry_of m (journal_in run m) mover)) [])))
         (set (map (seat_in run) r.makers) k (cond b (with_one (entry_of m (journal_in run m) mover) (seat_in run m)) (seat_in run m)))
         ≡ map (seat_in (cond b (with_entry m (entry_of m (journal_in run m) mover) run) run)) r.makers
     go true = entered r run k m (entry_of m (journal_in run m) mover) a p
@@ -175,11 +175,11 @@ heard_entry : (m : Maker) (e : Entry) (run : Run) → added m (walk m (journal_i
 unfolding with_entry
 heard_entry m e run h n =
     let f : List Pending → SeatView = λ l. record (seat_in (done_more m e run) n) { way = l } in
-    ap f (of-append n.id run.way _ ∙ ap (λ l. of n.id run.way ++ of n.id (map (copy_of m.id) l)) h ∙ append-nil (of n.id run.way))
+    ap f (of-append n.id run.way _ ∙ ap (λ l. of n.id run.way ++ of n.id (flat_map (copies_of m.id) l)) h ∙ append-nil (of n.id run.way))
 
 nothing_put : (m : Maker) (k : ℕ) (c : Pending) (x : Message) (run : Run)
     → added m (walk m (journal_in (taken_out m k run) m)) (Entry.Heard c.origin x) ≡ []
-unfolding added
+unfolding added Rattle.run_words.specs.Journal.copies
 nothing_put m k c x run = refl
 
 pub heard_is : (r : Rules) (run : Run) (place : ℕ) (m : Maker) (k : ℕ) (c : Pending) → AreApart r.makers → IsPlaced place r.makers m

@@ -1,10 +1,10 @@
 -- What is left at the seats when an event is given at a place.
-use Rattle.std.proofs.Common.{◌≡◌, ℕ, zero, suc, ◌<◌, Bool, true, false, cond, List, [], ◌∷◌, map, length, get_or, set, refl, sym, ap, subst, ◌∙◌, arith, Ok, Err, Result, IfOk}
+use Rattle.std.proofs.Common.{◌≡◌, ℕ, zero, suc, ◌<◌, Bool, true, false, cond, List, [], ◌∷◌, map, length, get_or, set, refl, sym, ap, subst, ◌∙◌, arith, Ok, Err, Result, IfOk, flat_map}
 use Rattle.fab_base.specs.declared.ids.ReplicaId.{ReplicaId}
 use Rattle.run_words.specs.declared.movers.Mover.{Mover}
 use Rattle.run_words.specs.declared.logs.Parcel.{Parcel}
 use Rattle.run_words.specs.declared.logs.Pending.{Pending}
-use Rattle.run_words.specs.Runs.{copy_of}
+use Rattle.run_words.specs.Runs.{copies_of}
 use Rattle.run_words.specs.Journal.{Maker, moves, entry_of, reads}
 use Rattle.sim_sched.specs.Seats.{SeatView, receive, seat_given, parcels_given, seat_heard, with_one, is_read}
 use Rattle.sim_sched.specs.Putting.{ids_of, given_at}
@@ -51,15 +51,15 @@ pub gave : {X : Type 0} (f : X → SeatView) (xs : List X) (place : ℕ) (was no
     → place < length xs → get_or (map f xs) place v ≡ v → f now ≡ seat_given mover (f (get_or xs place was))
     → parcels ≡ parcels_given mover (f (get_or xs place was))
     → grew ≡ moves (f (get_or xs place was)).maker (f (get_or xs place was)).journal mover → from ≡ v.maker.id
-    → views ≡ map (receive (map (copy_of from) parcels)) (map f (set xs place now))
+    → views ≡ map (receive (flat_map (copies_of from) parcels)) (map f (set xs place now))
     → (views ≡ given_at place mover v (map f xs)) × (grew ≡ moves v.maker v.journal mover)
 gave f xs place was now mover parcels grew from v views h e s p b i w =
     let q = view_at f xs place was v h e in (
-      w ∙ ap (λ (l : List SeatView). map (receive (map (copy_of from) parcels)) l) (map_set f xs place now)
-          ∙ ap (λ x. map (receive (map (copy_of from) parcels)) (set (map f xs) place x)) (s ∙ ap (seat_given mover) q)
-          ∙ ap (λ (l : List Parcel). map (receive (map (copy_of from) l)) (set (map f xs) place (seat_given mover v)))
+      w ∙ ap (λ (l : List SeatView). map (receive (flat_map (copies_of from) parcels)) l) (map_set f xs place now)
+          ∙ ap (λ x. map (receive (flat_map (copies_of from) parcels)) (set (map f xs) place x)) (s ∙ ap (seat_given mover) q)
+          ∙ ap (λ (l : List Parcel). map (receive (flat_map (copies_of from) l)) (set (map f xs) place (seat_given mover v)))
           (p ∙ ap (parcels_given mover) q)
-          ∙ ap (λ x. map (receive (map (copy_of x) (parcels_given mover v))) (set (map f xs) place (seat_given mover v))) i,
+          ∙ ap (λ x. map (receive (flat_map (copies_of x) (parcels_given mover v))) (set (map f xs) place (seat_given mover v))) i,
       b ∙ ap (λ (x : SeatView). moves x.maker x.journal mover) q,
     )
 

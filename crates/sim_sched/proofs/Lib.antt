@@ -7,4 +7,5 @@ pub mod Picked
 pub mod Ready
 pub mod FewerCopies
 pub mod QuietMoments
+pub mod Turns
 pub mod Opening

@@ -2,6 +2,7 @@
 use Rattle.std.proofs.Common.{◌≡◌, ℕ, Bool, false, List, [], ◌∷◌, ◌++◌, map, length, take, refl, sym, ap, subst, ◌∙◌, Result, Ok, Err, IfOk}
 use Rattle.fab_base.specs.declared.ids.ReplicaId.{ReplicaId}
 use Rattle.run_words.specs.declared.logs.Entry.{Entry}
+use Rattle.run_words.specs.declared.logs.Moment.{Moment}
 use Rattle.run_words.specs.declared.logs.Pending.{Pending}
 use Rattle.run_words.specs.declared.logs.Trace.{Trace}
 use Rattle.run_words.specs.declared.logs.Transcript.{Transcript}
@@ -14,7 +15,7 @@ use Rattle.run_words.specs.Runs.{Rules, Run, start, after, trace_in, IsSchedule}
 use Rattle.rand_chacha.specs.ChaCha.{ChaCha, key_of, of_seed}
 use Rattle.sim_sched.specs.Seats.{SeatView, AllOpen, receive, seat_in}
 use Rattle.sim_sched.specs.Putting.{IsNone, AreDistinct, ids_of}
-use Rattle.sim_sched.specs.Simulating.{AreRules, AllMadeWith, IsAt, IsReady}
+use Rattle.sim_sched.specs.Simulating.{AreRules, AllMadeWith, IsHeld, IsReady}
 use Rattle.sim_sched.specs.Playing.{Played}
 use Rattle.sim_sched.proofs.Receiving.{mapped_more}
 use Rattle.sim_sched.specs.Whole.{seed_bytes, rules_of, AreFresh, AreMadeWith, empty_seat, seat_trace}
@@ -75,19 +76,35 @@ module _ {P : Type 0} (made : P → Maker) (journal : P → List Entry) (shut : 
   traces_of run (m ∷ rest) = ap (λ l. trace_in run m ∷ l) (traces_of run rest)
 
   pub schedule : (script : Script) (parties : List P) (ids : List ReplicaId) (requests : List (ReplicaId × Pending)) (limit : ℕ)
-      (views now : List SeatView) (g : ChaCha) (spent : Bool) (traces : List Trace) → ids ≡ map (λ p. (made p).id) parties → AreDistinct ids
+      (views now : List SeatView) (g : ChaCha) (begun later : List Moment) (spent : Bool) (traces : List Trace) → ids ≡ map (λ p. (made p).id) parties → AreDistinct ids
       → AreFresh journal shut parties → limit ≡ script.turns → views ≡ map (receive requests) (map (empty_seat made journal shut) parties)
-      → g ≡ of_seed (seed_bytes script.seed) → Played limit views g spent now → traces ≡ map seat_trace now
-      → IsSchedule (rules_of script (map made parties) requests) (record { script = script; traces = traces; timeouts_left = 0 }) spent
-  schedule script parties ids requests limit views now g spent traces i d f t v w played e =
+      → g ≡ of_seed (seed_bytes script.seed) → begun ≡ [] → Played limit views g begun spent now later → traces ≡ map seat_trace now
+      → IsSchedule (rules_of script (map made parties) requests)
+      (record { script = script; traces = traces; moments = later; timeouts_left = 0 }) spent
+  schedule script parties ids requests limit views now g begun later spent traces i d f t v w b played e =
       let r = rules_of script (map made parties) requests in
       let rules : AreRules r (key_of (seed_bytes script.seed)) limit =
       record { distinct = apart_makers parties (subst AreDistinct i d); word_so = λ t. refl; turns_so = sym t } in
-      let at : IsAt r (key_of (seed_bytes script.seed)) (start r) views g 0 =
-      record { phase = refl; seated = v ∙ seats_first r parties f; placed = w; counted = refl } in
-      let cut = played r (key_of (seed_bytes script.seed)) rules at in
-      let f : List Trace → Transcript = λ l. record { script = script; traces = l; timeouts_left = 0 } in
-      (cut.0, cut.1, ap f (e ∙ ap (map seat_trace) cut.2 ∙ traces_of (after r cut.0) (map made parties)))
+      let held : IsHeld r (key_of (seed_bytes script.seed)) (start r) views g 0 begun = record {
+        seated = v ∙ seats_first r parties f;
+        placed = w;
+        counted = refl;
+        noted = b;
+        no_lines = refl;
+        no_patience = refl;
+      } in
+      let end = played r (key_of (seed_bytes script.seed)) rules held in
+      let run : Run = after r end.number in
+      let by_traces : List Trace → Transcript = λ l. record { script = script; traces = l; moments = later; timeouts_left = 0 } in
+      let by_moments : List Moment → Transcript = λ l. record
+      { script = script; traces = map (trace_in run) (map made parties); moments = l; timeouts_left = 0 } in
+      let by_left : ℕ → Transcript = λ n. record
+      { script = script; traces = map (trace_in run) (map made parties); moments = run.moments; timeouts_left = n } in (
+        end.number,
+        end.phase,
+        ap by_traces (e ∙ ap (map seat_trace) end.seated ∙ traces_of run (map made parties)) ∙ ap by_moments end.noted
+            ∙ ap by_left (sym end.no_patience),
+      )
 
 open_more : {X : Type 0} (f : X → SeatView) (xs : List X) (x : X) → AllOpen (map f (xs ++ x ∷ []))
     → AllOpen (map f xs) × ((f x).shut ≡ false)
@@ -103,8 +120,10 @@ collected f xs x traces now t h s e a =
     e ∙ ap (λ l. l ++ t ∷ []) (h o.0) ∙ ap (λ y. map seat_trace (map f xs) ++ y ∷ []) (s o.1)
     ∙ sym (ap (map seat_trace) (mapped_more f xs x) ∙ mapped_more seat_trace (map f xs) (f x))
 
-pub played_so : {E : Type 0} (turns : ℕ) (views first now : List SeatView) (g h : ChaCha) (told : Result Bool E) → views ≡ first → g ≡ h
-    → IfOk told (λ spent. Played turns views g spent now) → IfOk told (λ spent. Played turns first h spent now)
-played_so turns views first now g h (Err e) v w t = tt
-played_so turns views first now g h (Ok spent) v w t =
-    subst (λ (q : ChaCha). Played turns first q spent now) w (subst (λ (l : List SeatView). Played turns l g spent now) v t)
+pub played_so : {E : Type 0} (turns : ℕ) (views first now : List SeatView) (g h : ChaCha) (begun later : List Moment) (told : Result Bool E)
+    → views ≡ first → g ≡ h → IfOk told (λ spent. Played turns views g begun spent now later)
+    → IfOk told (λ spent. Played turns first h begun spent now later)
+played_so turns views first now g h begun later (Err e) v w t = tt
+played_so turns views first now g h begun later (Ok spent) v w t =
+    subst (λ (q : ChaCha). Played turns first q begun spent now later) w
+    (subst (λ (l : List SeatView). Played turns l g begun spent now later) v t)

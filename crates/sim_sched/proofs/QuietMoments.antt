@@ -1,25 +1,30 @@
--- One nudge of the code is one step of the fold.
-use Rattle.std.proofs.Common.{◌≡◌, ℕ, zero, suc, ◌+◌, ◌<◌, ◌≤◌, Bool, true, false, cond, ◌||◌, List, [], ◌∷◌, map, length, get_or, drop, refl, sym, ap, subst, ◌∙◌, arith, add-one, add-zero, Some, None, not}
+-- A quiet moment: one nudge of the code is one step of the fold, and then the moment is over.
+use Rattle.std.proofs.Common.{◌≡◌, ℕ, zero, suc, ◌+◌, ◌<◌, ◌≤◌, Bool, true, false, cond, ◌||◌, List, [], ◌∷◌, map, length, get_or, drop, refl, sym, ap, subst, ◌∙◌, arith, add-one, add-zero}
 use Rattle.std.proofs.lemmas.Bool.Decides.{nat_tests}
 use Rattle.fab_base.specs.declared.ids.ReplicaId.{ReplicaId}
 use Rattle.run_words.specs.declared.movers.Mover.{Mover}
+use Rattle.run_words.specs.declared.logs.Moment.{Moment}
 use Rattle.fab_base.specs.Limits.{Roster}
 use Rattle.bft_verify.specs.Ring.{Ring}
 use Rattle.run_words.specs.Journal.{Maker, moves}
-use Rattle.run_words.specs.Runs.{Rules, Run, Phase, journal_in, give, next, next_in, is_spent, start, pick_from, steps}
+use Rattle.run_words.specs.Runs.{Rules, Run, Phase, journal_in, give, again, over, ended, by_patience, next, next_in, is_spent}
 use Rattle.rand_chacha.specs.ChaCha.{ChaCha}
-use Rattle.sim_sched.specs.Seats.{SeatView, seat_in}
+use Rattle.sim_sched.specs.Seats.{SeatView, seat_in, numbers_of}
 use Rattle.sim_sched.specs.Putting.{given_at}
-use Rattle.sim_sched.specs.Simulating.{AreRules, generator_at, IsAt, IsReady, Picked}
-use Rattle.sim_sched.specs.Playing.{IsReached, IsIn, IsCut, EnteredBy, Entered, NudgedBy, Nudged, Played}
+use Rattle.sim_sched.specs.Simulating.{AreRules, generator_at, IsReady}
+use Rattle.sim_sched.specs.Playing.{IsReached, IsIn, IsEnded, with_moment, NudgedBy, Nudged, QuietedBy, Quieted}
 use Rattle.sim_sched.specs.declared.nudging.Nudges.{Nudges}
 use Rattle.sim_sched.proofs.Picking.{long_map}
-use Rattle.sim_sched.proofs.Picked.{picks_give}
+use Rattle.sim_sched.proofs.Picked.{beside_give, at_choice}
 use Rattle.sim_sched.proofs.Ready.{some_at, ready_given}
 use Rattle.sim_sched.proofs.Bridge.{IsPlaced, placed, placed_view, given_is, given_long}
 
 pub reached_next : (r : Rules) (run : Run) → IsReached r run → IsReached r (next r run)
 reached_next r run (n, e) = (suc n, ap (next r) e)
+
+-- the run after it, by its name
+pub reached_to : (r : Rules) (run now : Run) → IsReached r run → next r run ≡ now → IsReached r now
+reached_to r run now w e = subst (λ (x : Run). IsReached r x) e (reached_next r run w)
 
 drop_placed : (makers : List Maker) (k : ℕ) (m : Maker) → IsPlaced k makers m → drop k makers ≡ m ∷ drop (suc k) makers
 drop_placed [] k m p = absurd p
@@ -40,69 +45,82 @@ pub spent_not : (r : Rules) (run : Run) (turns entries : ℕ) → r.turns ≡ tu
     → is_spent r run ≡ false
 spent_not r run turns entries t e h = let k : length run.done < r.turns = omega arith in grind (arith, nat_tests)
 
-next_nudge : (r : Rules) (run : Run) (m : Maker) (rest : List Maker) (moved : Bool) → run.phase ≡ Phase.Nudging (m ∷ rest) moved → is_spent r run ≡ false → next r run ≡ record (give m Mover.Nudge run) { phase = Phase.Nudging rest (moved || moves m (journal_in run m) Mover.Nudge) }
-next_nudge r run m rest moved p s =
-    ap (next_in r run) p
-    ∙ ap (λ b. cond b (record run { phase = Phase.Ended true })
-    (record (give m Mover.Nudge run) { phase = Phase.Nudging rest (moved || moves m (journal_in run m) Mover.Nudge) })) s
+-- ---- the end of a run
 
-next_cut : (r : Rules) (run : Run) (m : Maker) (rest : List Maker) (moved : Bool) → run.phase ≡ Phase.Nudging (m ∷ rest) moved → is_spent r run ≡ true → next r run ≡ record run { phase = Phase.Ended true }
-next_cut r run m rest moved p s =
-    ap (next_in r run) p
-    ∙ ap (λ b. cond b (record run { phase = Phase.Ended true })
-    (record (give m Mover.Nudge run) { phase = Phase.Nudging rest (moved || moves m (journal_in run m) Mover.Nudge) })) s
+pub ended_by : (r : Rules) (run : Run) (views : List SeatView) (moments : List Moment) (spent : Bool) → IsReached r run
+    → run.phase ≡ Phase.Ended spent → views ≡ map (seat_in run) r.makers → moments ≡ run.moments → run.left ≡ 0
+    → IsEnded r spent views moments
+ended_by r run views moments spent (n, e) p v m l = record {
+  number = n;
+  phase = ap (λ (x : Run). x.phase) e ∙ p;
+  seated = v ∙ sym (ap (λ (x : Run). map (seat_in x) r.makers) e);
+  noted = m ∙ sym (ap (λ (x : Run). x.moments) e);
+  no_patience = ap (λ (x : Run). x.left) e ∙ l;
+}
 
--- a run that reached its end
-cut_by : (r : Rules) (run : Run) (views : List SeatView) (spent : Bool) → IsReached r run → run.phase ≡ Phase.Ended spent
-    → views ≡ map (seat_in run) r.makers → IsCut r spent views
-cut_by r run views spent (n, e) p v =
-    (n, ap (λ (x : Run). x.phase) e ∙ p, v ∙ ap (λ (x : Run). map (seat_in x) r.makers) (sym e))
+-- ---- nudges
 
-pub cut_here : (r : Rules) (run : Run) (next_run : Run) (views : List SeatView) (spent : Bool) → IsReached r run → next r run ≡ next_run
-    → next_run.phase ≡ Phase.Ended spent → views ≡ map (seat_in next_run) r.makers → IsCut r spent views
-cut_here r run next_run views spent w e p v = cut_by r next_run views spent (subst (λ (x : Run). IsReached r x) e (reached_next r run w)) p v
+-- a nudge, where the run isn't cut off before it
+abbrev nudged : Run → List ℕ → Maker → List Maker → Bool → Run
+nudged run at m rest moved =
+    record (give m Mover.Nudge run) { phase = Phase.Nudging at rest (moved || moves m (journal_in run m) Mover.Nudge) }
 
-pub nudge_spent : (r : Rules) (key : List ℕ) (views : List SeatView) (g : ChaCha) (entries turns place : ℕ) (moved : Bool)
-    → AreRules r key turns → place < length views → turns ≤ entries → IsIn r key (Phase.Nudging (drop place r.makers) moved) views g entries
-    → IsCut r true views
-nudge_spent r key views g entries turns place moved u h s (run, w, p, held) =
+next_nudge : (r : Rules) (run : Run) (at : List ℕ) (m : Maker) (rest : List Maker) (moved : Bool)
+    → run.phase ≡ Phase.Nudging at (m ∷ rest) moved → is_spent r run ≡ false → next r run ≡ nudged run at m rest moved
+next_nudge r run at m rest moved p s =
+    ap (next_in r run) p ∙ ap (λ b. cond b (ended true (over at false run)) (nudged run at m rest moved)) s
+
+next_cut : (r : Rules) (run : Run) (at : List ℕ) (m : Maker) (rest : List Maker) (moved : Bool)
+    → run.phase ≡ Phase.Nudging at (m ∷ rest) moved → is_spent r run ≡ true → next r run ≡ ended true (over at false run)
+next_cut r run at m rest moved p s =
+    ap (next_in r run) p ∙ ap (λ b. cond b (ended true (over at false run)) (nudged run at m rest moved)) s
+
+pub nudge_spent : (r : Rules) (key : List ℕ) (views : List SeatView) (g : ChaCha) (entries turns place : ℕ) (at : List ℕ) (moments : List Moment) (moved : Bool)
+    → AreRules r key turns → place < length views → turns ≤ entries
+    → IsIn r key (Phase.Nudging at (drop place r.makers) moved) views g entries moments → IsEnded r true views (with_moment at moments)
+nudge_spent r key views g entries turns place at moments moved u h s (run, w, p, held) =
     let size : length views ≡ length r.makers = ap length held.seated ∙ long_map (seat_in run) r.makers in
     let m = placed r.makers place (omega arith) in
-    let q : run.phase ≡ Phase.Nudging (m.0 ∷ drop (suc place) r.makers) moved = p
-    ∙ ap (λ l. Phase.Nudging l moved) (drop_placed r.makers place m.0 m.1) in
-    cut_here r run (record run { phase = Phase.Ended true }) views true w
-    (next_cut r run m.0 (drop (suc place) r.makers) moved q (spent_is r run turns entries u.turns_so held.counted s)) refl held.seated
+    let q : run.phase ≡ Phase.Nudging at (m.0 ∷ drop (suc place) r.makers) moved = p
+    ∙ ap (λ l. Phase.Nudging at l moved) (drop_placed r.makers place m.0 m.1) in
+    let end : Run = ended true (over at false run) in
+    let e : next r run ≡ end = next_cut r run at m.0 (drop (suc place) r.makers) moved q
+    (spent_is r run turns entries u.turns_so held.counted s) in
+    ended_by r end views (with_moment at moments) true (reached_to r run end w e) refl held.seated (ap (with_moment at) held.noted)
+    held.no_patience
 
-pub nudge_step : (r : Rules) (key : List ℕ) (views now : List SeatView) (g : ChaCha) (entries turns place : ℕ) (moved grew : Bool)
-    → AreRules r key turns → place < length views → entries < turns
-    → ((v : SeatView) → get_or views place v ≡ v
-    → (now ≡ given_at place Mover.Nudge v views) × (grew ≡ moves v.maker v.journal Mover.Nudge))
-    → IsIn r key (Phase.Nudging (drop place r.makers) moved) views g entries
-    → IsIn r key (Phase.Nudging (drop (suc place) r.makers) (moved || grew)) now g (entries + cond grew 1 0)
-nudge_step r key views now g entries turns place moved grew u h s x (run, w, p, held) =
+-- a nudge of the code at a place
+abbrev Gives : List SeatView → List SeatView → ℕ → Bool → Type 0
+Gives views now place grew = (v : SeatView) → get_or views place v ≡ v → (now ≡ given_at place Mover.Nudge v views) × (grew ≡ moves v.maker v.journal Mover.Nudge)
+
+pub nudge_step : (r : Rules) (key : List ℕ) (views now : List SeatView) (g : ChaCha) (entries turns place : ℕ) (at : List ℕ) (moments : List Moment) (moved grew : Bool)
+    → AreRules r key turns → place < length views → entries < turns → Gives views now place grew
+    → IsIn r key (Phase.Nudging at (drop place r.makers) moved) views g entries moments
+    → IsIn r key (Phase.Nudging at (drop (suc place) r.makers) (moved || grew)) now g (entries + cond grew 1 0) moments
+nudge_step r key views now g entries turns place at moments moved grew u h s x (run, w, p, held) =
     let size : length views ≡ length r.makers = ap length held.seated ∙ long_map (seat_in run) r.makers in
     let m = placed r.makers place (omega arith) in
-    let q : run.phase ≡ Phase.Nudging (m.0 ∷ drop (suc place) r.makers) moved = p
-    ∙ ap (λ l. Phase.Nudging l moved) (drop_placed r.makers place m.0 m.1) in
-    let e = next_nudge r run m.0 (drop (suc place) r.makers) moved q (spent_not r run turns entries u.turns_so held.counted s) in
+    let rest : List Maker = drop (suc place) r.makers in
+    let q : run.phase ≡ Phase.Nudging at (m.0 ∷ rest) moved = p
+    ∙ ap (λ l. Phase.Nudging at l moved) (drop_placed r.makers place m.0 m.1) in
+    let e = next_nudge r run at m.0 rest moved q (spent_not r run turns entries u.turns_so held.counted s) in
     let v : SeatView = seat_in run m.0 in
     let here : get_or views place v ≡ v = ap (λ (k : List SeatView). get_or k place v) held.seated
     ∙ placed_view (seat_in run) r.makers place m.0 v m.1 in
     let d = x v here in
-    let after_run : Run = record
-    (give m.0 Mover.Nudge run) {
-      phase = Phase.Nudging (drop (suc place) r.makers)
-          (moved || moves m.0 (journal_in run m.0) Mover.Nudge);
-    } in (
-      after_run,
-      subst (λ (y : Run). IsReached r y) e (reached_next r run w),
-      ap (λ b. Phase.Nudging (drop (suc place) r.makers) (moved || b)) (sym d.1),
+    let b = beside_give m.0 Mover.Nudge run in (
+      nudged run at m.0 rest moved,
+      reached_to r run (nudged run at m.0 rest moved) w e,
+      ap (λ b. Phase.Nudging at rest (moved || b)) (sym d.1),
       record {
         seated = d.0 ∙ ap (λ (k : List SeatView). given_at place Mover.Nudge v k) held.seated
             ∙ given_is r run place m.0 Mover.Nudge u.distinct m.1;
-        placed = held.placed ∙ ap (λ k. generator_at key k) (sym (picks_give m.0 Mover.Nudge run));
+        placed = held.placed ∙ ap (λ k. generator_at key k) (sym b.picks);
         counted = ap (λ k. k + cond grew 1 0) held.counted ∙ ap (λ b. length run.done + cond b 1 0) d.1
             ∙ sym (given_long m.0 Mover.Nudge run);
+        noted = held.noted ∙ sym b.moments;
+        no_lines = b.lines ∙ held.no_lines;
+        no_patience = b.left ∙ held.no_patience;
       },
     )
 
@@ -114,38 +132,35 @@ or_false : (b : Bool) → (b || false) ≡ b
 or_false true = refl
 or_false false = refl
 
-pub nudge_moved : (r : Rules) (key : List ℕ) (views now : List SeatView) (g : ChaCha) (entries turns place : ℕ) (moved grew : Bool)
-    → grew ≡ true → AreRules r key turns → place < length views → entries < turns
-    → ((v : SeatView) → get_or views place v ≡ v
-    → (now ≡ given_at place Mover.Nudge v views) × (grew ≡ moves v.maker v.journal Mover.Nudge))
-    → IsIn r key (Phase.Nudging (drop place r.makers) moved) views g entries
-    → IsIn r key (Phase.Nudging (drop (place + 1) r.makers) true) now g (entries + 1)
-nudge_moved r key views now g entries turns place moved grew t u h s x i =
-    let a = nudge_step r key views now g entries turns place moved grew u h s x i in
-    let b = subst (λ k. IsIn r key (Phase.Nudging (drop k r.makers) (moved || grew)) now g (entries + cond grew 1 0))
+pub nudge_moved : (r : Rules) (key : List ℕ) (views now : List SeatView) (g : ChaCha) (entries turns place : ℕ) (at : List ℕ) (moments : List Moment) (moved grew : Bool)
+    → grew ≡ true → AreRules r key turns → place < length views → entries < turns → Gives views now place grew
+    → IsIn r key (Phase.Nudging at (drop place r.makers) moved) views g entries moments
+    → IsIn r key (Phase.Nudging at (drop (place + 1) r.makers) true) now g (entries + 1) moments
+nudge_moved r key views now g entries turns place at moments moved grew t u h s x i =
+    let a = nudge_step r key views now g entries turns place at moments moved grew u h s x i in
+    let b = subst (λ k. IsIn r key (Phase.Nudging at (drop k r.makers) (moved || grew)) now g (entries + cond grew 1 0) moments)
     (sym (add-one place)) a in
-    subst (λ q. IsIn r key (Phase.Nudging (drop (place + 1) r.makers) q) now g (entries + 1)) (or_true moved)
-    (subst (λ q. IsIn r key (Phase.Nudging (drop (place + 1) r.makers) (moved || q)) now g (entries + cond q 1 0)) t b)
+    subst (λ q. IsIn r key (Phase.Nudging at (drop (place + 1) r.makers) q) now g (entries + 1) moments) (or_true moved)
+    (subst (λ q. IsIn r key (Phase.Nudging at (drop (place + 1) r.makers) (moved || q)) now g (entries + cond q 1 0) moments) t b)
 
-pub nudge_still : (r : Rules) (key : List ℕ) (views now : List SeatView) (g : ChaCha) (entries turns place : ℕ) (moved grew : Bool)
-    → grew ≡ false → AreRules r key turns → place < length views → entries < turns
-    → ((v : SeatView) → get_or views place v ≡ v
-    → (now ≡ given_at place Mover.Nudge v views) × (grew ≡ moves v.maker v.journal Mover.Nudge))
-    → IsIn r key (Phase.Nudging (drop place r.makers) moved) views g entries
-    → IsIn r key (Phase.Nudging (drop (place + 1) r.makers) moved) now g entries
-nudge_still r key views now g entries turns place moved grew t u h s x i =
-    let a = nudge_step r key views now g entries turns place moved grew u h s x i in
-    let b = subst (λ k. IsIn r key (Phase.Nudging (drop k r.makers) (moved || grew)) now g (entries + cond grew 1 0))
+pub nudge_still : (r : Rules) (key : List ℕ) (views now : List SeatView) (g : ChaCha) (entries turns place : ℕ) (at : List ℕ) (moments : List Moment) (moved grew : Bool)
+    → grew ≡ false → AreRules r key turns → place < length views → entries < turns → Gives views now place grew
+    → IsIn r key (Phase.Nudging at (drop place r.makers) moved) views g entries moments
+    → IsIn r key (Phase.Nudging at (drop (place + 1) r.makers) moved) now g entries moments
+nudge_still r key views now g entries turns place at moments moved grew t u h s x i =
+    let a = nudge_step r key views now g entries turns place at moments moved grew u h s x i in
+    let b = subst (λ k. IsIn r key (Phase.Nudging at (drop k r.makers) (moved || grew)) now g (entries + cond grew 1 0) moments)
     (sym (add-one place)) a in
-    let d = subst (λ q. IsIn r key (Phase.Nudging (drop (place + 1) r.makers) (moved || q)) now g (entries + cond q 1 0)) t b in
-    subst (λ q. IsIn r key (Phase.Nudging (drop (place + 1) r.makers) q) now g entries) (or_false moved)
-    (subst (λ n. IsIn r key (Phase.Nudging (drop (place + 1) r.makers) (moved || false)) now g n) (add-zero entries) d)
+    let d = subst (λ q. IsIn r key (Phase.Nudging at (drop (place + 1) r.makers) (moved || q)) now g (entries + cond q 1 0) moments) t b in
+    subst (λ q. IsIn r key (Phase.Nudging at (drop (place + 1) r.makers) q) now g entries moments) (or_false moved)
+    (subst (λ n. IsIn r key (Phase.Nudging at (drop (place + 1) r.makers) (moved || false)) now g n moments) (add-zero entries) d)
 
-pub nudge_whole : (r : Rules) (key : List ℕ) (views : List SeatView) (g : ChaCha) (entries place : ℕ) (moved : Bool) → length views ≤ place
-    → IsIn r key (Phase.Nudging (drop place r.makers) moved) views g entries → IsIn r key (Phase.Nudging [] moved) views g entries
-nudge_whole r key views g entries place moved h (run, w, p, held) =
+pub nudge_whole : (r : Rules) (key : List ℕ) (views : List SeatView) (g : ChaCha) (entries place : ℕ) (at : List ℕ) (moments : List Moment) (moved : Bool)
+    → length views ≤ place → IsIn r key (Phase.Nudging at (drop place r.makers) moved) views g entries moments
+    → IsIn r key (Phase.Nudging at [] moved) views g entries moments
+nudge_whole r key views g entries place at moments moved h (run, w, p, held) =
     let size : length views ≡ length r.makers = ap length held.seated ∙ long_map (seat_in run) r.makers in
-    (run, w, p ∙ ap (λ l. Phase.Nudging l moved) (drop_whole r.makers place (omega arith)), held)
+    (run, w, p ∙ ap (λ l. Phase.Nudging at l moved) (drop_whole r.makers place (omega arith)), held)
 
 -- what the loop over the replicas keeps
 pub record NudgesSo (members : Roster) (ring : Ring) (ids : List ReplicaId) (first views : List SeatView) (before turns entries place : ℕ) (moved : Bool) : Type 0 where
@@ -153,166 +168,9 @@ pub record NudgesSo (members : Roster) (ring : Ring) (ids : List ReplicaId) (fir
   pub within : entries ≤ turns
   pub since : before ≤ entries
   pub more : moved ≡ true → before < entries
-  pub nudges : (r : Rules) (key : List ℕ) (g : ChaCha) → AreRules r key turns → IsIn r key (Phase.Nudging r.makers false) first g before
-      → IsIn r key (Phase.Nudging (drop place r.makers) moved) views g entries
-
--- ---- picking until an entry is made
-
-abbrev at_in : (r : Rules) (key : List ℕ) (run : Run) (views : List SeatView) (g : ChaCha) (entries : ℕ) → IsReached r run
-    → IsAt r key run views g entries → IsIn r key Phase.Pick views g entries
-at_in r key run views g entries w a =
-    (run, w, a.phase, record { seated = a.seated; placed = a.placed; counted = a.counted })
-
-abbrev in_at : (r : Rules) (key : List ℕ) (views : List SeatView) (g : ChaCha) (entries : ℕ) (i : IsIn r key Phase.Pick views g entries)
-    → IsAt r key i.0 views g entries
-in_at r key views g entries (run, w, p, h) = record { phase = p; seated = h.seated; placed = h.placed; counted = h.counted }
-
-pub start_in : (r : Rules) (key : List ℕ) (views : List SeatView) (g : ChaCha) → IsAt r key (start r) views g 0
-    → IsIn r key Phase.Pick views g 0
-start_in r key views g a = at_in r key (start r) views g 0 (zero, refl) a
-
--- a choice of any run that isn't spent, with the run reached
-picked_in : (r : Rules) (key : List ℕ) (turns entries : ℕ) (views now : List SeatView) (g h : ChaCha) (grew : Bool) → AreRules r key turns
-    → entries < turns → Picked views g (Some grew) now h → IsIn r key Phase.Pick views g entries
-    → IsIn r key Phase.Pick now h (entries + cond grew 1 0)
-picked_in r key turns entries views now g h grew u l x (run, w, p, held) =
-    let rules : AreRules r key r.turns = record { distinct = u.distinct; word_so = u.word_so; turns_so = refl } in
-    let d = x r key run entries rules (in_at r key views g entries (run, w, p, held)) (spent_not r run turns entries u.turns_so held.counted l) in
-    at_in r key (next r run) now h (entries + cond grew 1 0) (reached_next r run w) d
-
--- no step can move: the quiet moment begins
-quiet_in : (r : Rules) (key : List ℕ) (turns entries : ℕ) (views now : List SeatView) (g h : ChaCha) → AreRules r key turns
-    → entries < turns → Picked views g None now h → IsIn r key Phase.Pick views g entries
-    → IsIn r key (Phase.Nudging r.makers false) now h entries
-quiet_in r key turns entries views now g h u l x (run, w, p, held) =
-    let rules : AreRules r key r.turns = record { distinct = u.distinct; word_so = u.word_so; turns_so = refl } in
-    let s = spent_not r run turns entries u.turns_so held.counted l in
-    let d = x r key run entries rules (in_at r key views g entries (run, w, p, held)) s in
-    let quiet_run : Run = record run { phase = Phase.Nudging r.makers false } in
-    let e : next r run ≡ quiet_run =
-    ap (next_in r run) p ∙ ap (λ b. cond b (record run { phase = Phase.Ended true }) (pick_from r run (steps r run))) s
-    ∙ ap (pick_from r run) d.0 in (
-      quiet_run,
-      subst (λ (y : Run). IsReached r y) e (reached_next r run w),
-      refl,
-      record { seated = d.1 ∙ held.seated; placed = d.2 ∙ held.placed; counted = held.counted },
-    )
-
--- what the loop over refused copies keeps
-pub record PicksSo (members : Roster) (ring : Ring) (ids : List ReplicaId) (first : List SeatView) (start_at : ChaCha) (views : List SeatView) (g : ChaCha) : Type 0 where
-  pub ready : IsReady members ring ids views
-  pub picks : (r : Rules) (key : List ℕ) (turns entries : ℕ) → AreRules r key turns → entries < turns
-      → IsIn r key Phase.Pick first start_at entries → IsIn r key Phase.Pick views g entries
-
-pub picks_first : (members : Roster) (ring : Ring) (ids : List ReplicaId) (first : List SeatView) (start_at : ChaCha)
-    → IsReady members ring ids first → PicksSo members ring ids first start_at first start_at
-picks_first members ring ids first start_at q = record { ready = q; picks = λ r key turns entries u l i. i }
-
-pub picks_refused : (members : Roster) (ring : Ring) (ids : List ReplicaId) (first : List SeatView) (start_at : ChaCha) (views now : List SeatView) (g h : ChaCha) (grew : Bool)
-    → grew ≡ false → IsReady members ring ids now → Picked views g (Some grew) now h → PicksSo members ring ids first start_at views g
-    → PicksSo members ring ids first start_at now h
-picks_refused members ring ids first start_at views now g h grew e q x s = record {
-  ready = q;
-  picks = λ r key turns entries u l i.
-      subst (λ n. IsIn r key Phase.Pick now h n) (ap (λ b. entries + cond b 1 0) e ∙ add-zero entries)
-      (picked_in r key turns entries views now g h grew u l x (s.picks r key turns entries u l i));
-}
-
-pub picks_entered : (members : Roster) (ring : Ring) (ids : List ReplicaId) (first : List SeatView) (start_at : ChaCha) (views now : List SeatView) (g h : ChaCha) (grew : Bool)
-    → grew ≡ true → Picked views g (Some grew) now h → PicksSo members ring ids first start_at views g → Entered first start_at true now h
-picks_entered members ring ids first start_at views now g h grew e x s r key turns entries u l i =
-    subst (λ b. IsIn r key Phase.Pick now h (entries + cond b 1 0)) e
-    (picked_in r key turns entries views now g h grew u l x (s.picks r key turns entries u l i))
-
-pub picks_none : (members : Roster) (ring : Ring) (ids : List ReplicaId) (first : List SeatView) (start_at : ChaCha) (views now : List SeatView) (g h : ChaCha)
-    → Picked views g None now h → PicksSo members ring ids first start_at views g → Entered first start_at false now h
-picks_none members ring ids first start_at views now g h x s r key turns entries u l i =
-    quiet_in r key turns entries views now g h u l x (s.picks r key turns entries u l i)
-
--- ---- the loop over entries
-
-pub record PlaysSo (members : Roster) (ring : Ring) (ids : List ReplicaId) (turns : ℕ) (first : List SeatView) (start_at : ChaCha) (views : List SeatView) (g : ChaCha) (entries : ℕ) : Type 0 where
-  pub ready : IsReady members ring ids views
-  pub within : entries ≤ turns
-  pub plays : (r : Rules) (key : List ℕ) → AreRules r key turns → IsAt r key (start r) first start_at 0
-      → IsIn r key Phase.Pick views g entries
-
-pub plays_first : (members : Roster) (ring : Ring) (ids : List ReplicaId) (turns : ℕ) (first : List SeatView) (start_at : ChaCha)
-    → IsReady members ring ids first → PlaysSo members ring ids turns first start_at first start_at 0
-plays_first members ring ids turns first start_at q = record {
-  ready = q;
-  within = omega arith;
-  plays = λ r key u a. start_in r key first start_at a;
-}
-
-pub play_spent : (members : Roster) (ring : Ring) (ids : List ReplicaId) (turns : ℕ) (first : List SeatView) (start_at : ChaCha) (views : List SeatView) (g : ChaCha) (entries : ℕ)
-    → turns ≤ entries → PlaysSo members ring ids turns first start_at views g entries → Played turns first start_at true views
-play_spent members ring ids turns first start_at views g entries h s r key u a =
-    let t = s.plays r key u a in
-    let e : next r t.0 ≡ record t.0 { phase = Phase.Ended true } =
-    ap (next_in r t.0) t.2
-    ∙ ap (λ b. cond b (record t.0 { phase = Phase.Ended true }) (pick_from r t.0 (steps r t.0)))
-    (spent_is r t.0 turns entries u.turns_so t.3.counted h) in
-    cut_here r t.0 (record t.0 { phase = Phase.Ended true }) views true t.1 e refl t.3.seated
-
-pub play_entered : (members : Roster) (ring : Ring) (ids : List ReplicaId) (turns : ℕ) (first : List SeatView) (start_at : ChaCha) (views now : List SeatView) (g h : ChaCha) (entries more : ℕ) (entered : Bool)
-    → entered ≡ true → entries < turns → IsReady members ring ids now → more ≡ entries + 1 → Entered views g entered now h
-    → PlaysSo members ring ids turns first start_at views g entries → PlaysSo members ring ids turns first start_at now h more
-play_entered members ring ids turns first start_at views now g h entries more entered e l q m x s = record {
-  ready = q;
-  within = omega arith;
-  plays = λ r key u a.
-      let d : IsIn r key Phase.Pick now h (entries + 1) = subst (λ b. EnteredBy r key entries b now h) e
-      (x r key turns entries u l (s.plays r key u a)) in
-      subst (λ n. IsIn r key Phase.Pick now h n) (sym m) d;
-}
-
--- the quiet moment, with what nudging made of it
-quiet_then : (members : Roster) (ring : Ring) (ids : List ReplicaId) (turns : ℕ) (first : List SeatView) (start_at : ChaCha) (views mid now : List SeatView) (g h : ChaCha) (entries : ℕ) (entered : Bool) (told : Nudges) (spent : Bool)
-    → entered ≡ false → entries < turns → Entered views g entered mid h → Nudged mid entries turns told now → told.spent ≡ spent
-    → PlaysSo members ring ids turns first start_at views g entries → (r : Rules) (key : List ℕ) → AreRules r key turns
-    → IsAt r key (start r) first start_at 0 → NudgedBy r key spent told now h
-quiet_then members ring ids turns first start_at views mid now g h entries entered told spent f l x n e s r key u a =
-    let i : IsIn r key (Phase.Nudging r.makers false) mid h entries = subst (λ b. EnteredBy r key entries b mid h) f
-    (x r key turns entries u l (s.plays r key u a)) in
-    subst (λ b. NudgedBy r key b told now h) e (n r key h u i)
-
-pub play_cut : (members : Roster) (ring : Ring) (ids : List ReplicaId) (turns : ℕ) (first : List SeatView) (start_at : ChaCha) (views mid now : List SeatView) (g h : ChaCha) (entries : ℕ) (entered : Bool) (told : Nudges)
-    → entered ≡ false → entries < turns → Entered views g entered mid h → Nudged mid entries turns told now → told.spent ≡ true
-    → PlaysSo members ring ids turns first start_at views g entries → Played turns first start_at true now
-play_cut members ring ids turns first start_at views mid now g h entries entered told f l x n e s r key u a =
-    quiet_then members ring ids turns first start_at views mid now g h entries entered told true f l x n e s r key u a
-
-pub play_settled : (members : Roster) (ring : Ring) (ids : List ReplicaId) (turns : ℕ) (first : List SeatView) (start_at : ChaCha) (views mid now : List SeatView) (g h : ChaCha) (entries : ℕ) (entered : Bool) (told : Nudges)
-    → entered ≡ false → entries < turns → Entered views g entered mid h → Nudged mid entries turns told now → told.spent ≡ false
-    → told.moved ≡ false → PlaysSo members ring ids turns first start_at views g entries → Played turns first start_at false now
-play_settled members ring ids turns first start_at views mid now g h entries entered told f l x n e still s r key u a =
-    let d = quiet_then members ring ids turns first start_at views mid now g h entries entered told false f l x n e s r key u a in
-    let p : d.0.phase ≡ Phase.Nudging [] false = d.2 ∙ ap (λ b. Phase.Nudging [] b) still in
-    cut_here r d.0 (record d.0 { phase = Phase.Ended false }) now false d.1 (ap (next_in r d.0) p) refl d.3.seated
-
-pub play_on : (members : Roster) (ring : Ring) (ids : List ReplicaId) (turns : ℕ) (first : List SeatView) (start_at : ChaCha) (views mid now : List SeatView) (g h : ChaCha) (entries more : ℕ) (entered : Bool) (told : Nudges)
-    → entered ≡ false → entries < turns → IsReady members ring ids now → told.entries ≤ turns → Entered views g entered mid h
-    → Nudged mid entries turns told now → told.spent ≡ false → told.moved ≡ true → more ≡ told.entries
-    → PlaysSo members ring ids turns first start_at views g entries → PlaysSo members ring ids turns first start_at now h more
-play_on members ring ids turns first start_at views mid now g h entries more entered told f l q w x n e moved m s = record {
-  ready = q;
-  within = omega arith;
-  plays = λ r key u a.
-      let d = quiet_then members ring ids turns first start_at views mid now g h entries entered told false f l x n e s r key u a in
-      let p : d.0.phase ≡ Phase.Nudging [] true = d.2 ∙ ap (λ b. Phase.Nudging [] b) moved in
-      let pick_run : Run = record d.0 { phase = Phase.Pick } in
-      let z : next r d.0 ≡ pick_run = ap (next_in r d.0) p in
-      subst (λ k. IsIn r key Phase.Pick now h k) (sym m) (
-        pick_run,
-        subst (λ (y : Run). IsReached r y) z (reached_next r d.0 d.1),
-        refl,
-        record { seated = d.3.seated; placed = d.3.placed; counted = d.3.counted },
-      );
-}
-
-abbrev Gives : List SeatView → List SeatView → ℕ → Bool → Type 0
-Gives views now place grew = (v : SeatView) → get_or views place v ≡ v → (now ≡ given_at place Mover.Nudge v views) × (grew ≡ moves v.maker v.journal Mover.Nudge)
+  pub nudges : (r : Rules) (key at : List ℕ) (g : ChaCha) (moments : List Moment) → AreRules r key turns
+      → IsIn r key (Phase.Nudging at r.makers false) first g before moments
+      → IsIn r key (Phase.Nudging at (drop place r.makers) moved) views g entries moments
 
 ready_on : (members : Roster) (ring : Ring) (ids : List ReplicaId) (views now : List SeatView) (place : ℕ) (grew : Bool)
     → place < length views → Gives views now place grew → IsReady members ring ids views → IsReady members ring ids now
@@ -330,10 +188,10 @@ nudges_moved members ring ids first views now before turns entries place more mo
   within = omega arith;
   since = let old = s.since in omega arith;
   more = λ q. let old = s.since in omega arith;
-  nudges = λ r key g u i.
-      let a = nudge_moved r key views now g entries turns place moved grew t u h l x (s.nudges r key g u i) in
-      subst (λ q. IsIn r key (Phase.Nudging (drop (place + 1) r.makers) q) now g more) (sym k)
-      (subst (λ n. IsIn r key (Phase.Nudging (drop (place + 1) r.makers) true) now g n) (sym m) a);
+  nudges = λ r key at g moments u i.
+      let a = nudge_moved r key views now g entries turns place at moments moved grew t u h l x (s.nudges r key at g moments u i) in
+      subst (λ q. IsIn r key (Phase.Nudging at (drop (place + 1) r.makers) q) now g more moments) (sym k)
+      (subst (λ n. IsIn r key (Phase.Nudging at (drop (place + 1) r.makers) true) now g n moments) (sym m) a);
 }
 
 pub nudges_still : (members : Roster) (ring : Ring) (ids : List ReplicaId) (first views now : List SeatView) (before turns entries place more : ℕ) (moved mark grew : Bool)
@@ -345,16 +203,54 @@ nudges_still members ring ids first views now before turns entries place more mo
   within = omega arith;
   since = let old = s.since in omega arith;
   more = λ q. let old = s.more (sym k ∙ q) in omega arith;
-  nudges = λ r key g u i.
-      let a = nudge_still r key views now g entries turns place moved grew t u h l x (s.nudges r key g u i) in
-      subst (λ q. IsIn r key (Phase.Nudging (drop (place + 1) r.makers) q) now g more) (sym k)
-      (subst (λ n. IsIn r key (Phase.Nudging (drop (place + 1) r.makers) moved) now g n) (sym m) a);
+  nudges = λ r key at g moments u i.
+      let a = nudge_still r key views now g entries turns place at moments moved grew t u h l x (s.nudges r key at g moments u i) in
+      subst (λ q. IsIn r key (Phase.Nudging at (drop (place + 1) r.makers) q) now g more moments) (sym k)
+      (subst (λ n. IsIn r key (Phase.Nudging at (drop (place + 1) r.makers) moved) now g n moments) (sym m) a);
 }
 
-pub not_true : (b : Bool) → not b ≡ true → b ≡ false
-not_true true e = absurd (cc)
-not_true false e = refl
+-- ---- the moment is over
 
-pub not_false : (b : Bool) → not b ≡ false → b ≡ true
-not_false true e = refl
-not_false false e = absurd (cc)
+-- a nudge moved a replica: the run stands at a choice again
+over_moved : (r : Rules) (key : List ℕ) (views : List SeatView) (g : ChaCha) (entries : ℕ) (at : List ℕ) (moments : List Moment)
+    → IsIn r key (Phase.Nudging at [] true) views g entries moments → IsIn r key Phase.Pick views g entries (with_moment at moments)
+over_moved r key views g entries at moments (run, w, p, held) =
+    let then : Run = again (over at false run) in
+    let reached = reached_to r run then w (ap (next_in r run) p) in
+    let a = at_choice r key then views g entries (with_moment at moments) (ap (λ l. Phase.Lines [] l) held.no_lines)
+    (record {
+      seated = held.seated;
+      placed = held.placed;
+      counted = held.counted;
+      noted = ap (with_moment at) held.noted;
+      no_lines = held.no_lines;
+      no_patience = held.no_patience;
+    }) in
+    (next r then, reached_next r then reached, a.phase, a.held)
+
+-- none did, and there is no patience: the run has ended
+over_still : (r : Rules) (key : List ℕ) (views : List SeatView) (g : ChaCha) (entries : ℕ) (at : List ℕ) (moments : List Moment)
+    → IsIn r key (Phase.Nudging at [] false) views g entries moments → IsEnded r false views (with_moment at moments)
+over_still r key views g entries at moments (run, w, p, held) =
+    let end : Run = ended false (over at false run) in
+    let e : next r run ≡ end = ap (next_in r run) p ∙ ap (by_patience r run at) held.no_patience in
+    ended_by r end views (with_moment at moments) false (reached_to r run end w e) refl held.seated (ap (with_moment at) held.noted)
+    held.no_patience
+
+-- the numbers that are noted are those at which the moment began
+pub quieted : (views now : List SeatView) (before turns : ℕ) (counts : List ℕ) (moments later : List Moment) (told : Nudges)
+    → counts ≡ numbers_of views → Nudged views before turns told now → later ≡ with_moment counts moments
+    → Quieted views before turns moments told now later
+quieted views now before turns counts moments later told c n l r key g u i =
+    subst (λ k. QuietedBy r key told told.spent told.moved now g k) (sym (l ∙ ap (λ k. with_moment k moments) c))
+    (go told.spent told.moved refl (n r key (numbers_of views) g moments u i))
+  where
+    go : (spent moved : Bool) → told.moved ≡ moved → NudgedBy r key (numbers_of views) moments spent told now g
+        → QuietedBy r key told spent moved now g (with_moment (numbers_of views) moments)
+    go true moved e d = d
+    go false true e d =
+        over_moved r key now g told.entries (numbers_of views) moments
+        (subst (λ b. IsIn r key (Phase.Nudging (numbers_of views) [] b) now g told.entries moments) e d)
+    go false false e d =
+        over_still r key now g told.entries (numbers_of views) moments
+        (subst (λ b. IsIn r key (Phase.Nudging (numbers_of views) [] b) now g told.entries moments) e d)

@@ -45,6 +45,7 @@ would_move m j Mover.Nudge = refl
 would_move m j Mover.Emit = refl
 would_move m j Mover.Execute = refl
 would_move m j Mover.Checkpoint = refl
+would_move m j Mover.Timeout = refl
 
 made_of : (m : Maker) (j : List Entry) (mover : Mover) → made_by m j (act_of mover) ≡ entry_of m j mover
 made_of m j Mover.Batch = refl
@@ -52,6 +53,7 @@ made_of m j Mover.Nudge = refl
 made_of m j Mover.Emit = refl
 made_of m j Mover.Execute = refl
 made_of m j Mover.Checkpoint = refl
+made_of m j Mover.Timeout = refl
 
 grown : (m : Maker) (j : List Entry) (mover : Mover)
     → cond (would m j (act_of mover)) (j ++ made_by m j (act_of mover) ∷ []) j ≡ cond (moves m j mover) (j ++ entry_of m j mover ∷ []) j

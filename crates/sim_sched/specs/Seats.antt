@@ -1,5 +1,5 @@
 -- What a run sees of a replica's seat, and what each call does to it.
-use Rattle.std.specs.Prelude.{◌≡◌, ℕ, zero, suc, ◌+◌, Bool, true, false, cond, List, [], ◌∷◌, ◌++◌, length, Option, Some, None, Result, Ok, Err, slice_index_or, ◌<◌}
+use Rattle.std.specs.Prelude.{◌≡◌, ℕ, zero, suc, ◌+◌, Bool, true, false, cond, List, [], ◌∷◌, ◌++◌, map, length, Option, Some, None, Result, Ok, Err, slice_index_or, ◌<◌}
 use Rattle.std.specs.List.{remove, flat_map}
 use Rattle.fab_base.specs.declared.ids.ReplicaId.{ReplicaId}
 use Rattle.fab_base.specs.declared.messages.Message.{Message}
@@ -111,6 +111,10 @@ is_read (Err e) = false
 -- a copy comes to those that have its receiver's id
 abbrev pub receive : List (ReplicaId × Pending) → SeatView → SeatView
 receive copies s = record s { way = s.way ++ of s.maker.id copies }
+
+-- how many entries each journal has
+abbrev pub numbers_of : List SeatView → List ℕ
+numbers_of views = map (λ v. length v.journal) views
 
 -- how many copies are on their way
 abbrev pub copies : List SeatView → ℕ

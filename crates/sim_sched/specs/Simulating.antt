@@ -7,6 +7,7 @@ use Rattle.run_words.specs.Journal.{moves, reads}
 use Rattle.run_words.specs.Lawful.{AreApart}
 use Rattle.run_words.specs.Runs.{Rules, Run, Phase, next, steps, is_spent}
 use Rattle.run_words.specs.declared.logs.Pending.{Pending}
+use Rattle.run_words.specs.declared.logs.Moment.{Moment}
 use Rattle.rand_chacha.specs.ChaCha.{ChaCha, word_at}
 use Rattle.sim_sched.specs.declared.seats.Choice.{Choice}
 use Rattle.sim_sched.specs.Seats.{SeatView, seat_in, is_read, AllOpen}
@@ -27,12 +28,19 @@ generator_at key picks = record { key = key; stream = 0; word_pos = picks % 2 ^ 
 abbrev pub word_of : List ℕ → ℕ → ℕ
 word_of key t = word_at 4 key 0 (t % 2 ^ 68)
 
--- the seats, the generator and the number of entries are those of a run that stands at a choice
-pub record IsAt (r : Rules) (key : List ℕ) (run : Run) (views : List SeatView) (generator : ChaCha) (entries : ℕ) : Type 0 where
-  pub phase : run.phase ≡ Phase.Pick
+-- the seats, the generator, the number of entries and the quiet moments are those of a run that has no lines left and no patience
+pub record IsHeld (r : Rules) (key : List ℕ) (run : Run) (views : List SeatView) (generator : ChaCha) (entries : ℕ) (moments : List Moment) : Type 0 where
   pub seated : views ≡ map (seat_in run) r.makers
   pub placed : generator ≡ generator_at key run.picks
   pub counted : entries ≡ length run.done
+  pub noted : moments ≡ run.moments
+  pub no_lines : run.lines ≡ []
+  pub no_patience : run.left ≡ 0
+
+-- and it stands at a choice
+pub record IsAt (r : Rules) (key : List ℕ) (run : Run) (views : List SeatView) (generator : ChaCha) (entries : ℕ) (moments : List Moment) : Type 0 where
+  pub phase : run.phase ≡ Phase.Pick
+  pub held : IsHeld r key run views generator entries moments
 
 -- the rules of a call
 pub record AreRules (r : Rules) (key : List ℕ) (turns : ℕ) : Type 0 where
@@ -51,11 +59,13 @@ pub record IsReady (members : Roster) (ring : Ring) (ids : List ReplicaId) (view
   pub open_all : AllOpen views
   pub made : AllMadeWith members ring views
 
-abbrev pub PickedTo : Rules → List ℕ → Run → List SeatView → ChaCha → ℕ → Option Bool → List SeatView → ChaCha → Type 0
-PickedTo r key run views g entries None now h = (steps r run ≡ []) × (now ≡ views) × (h ≡ g)
-PickedTo r key run views g entries (Some grew) now h = IsAt r key (next r run) now h (entries + cond grew 1 0)
+-- after a step the run goes through the lines, of which there are none, and stands at a choice again
+abbrev pub PickedTo : Rules → List ℕ → Run → List SeatView → ChaCha → ℕ → List Moment → Option Bool → List SeatView → ChaCha → Type 0
+PickedTo r key run views g entries moments None now h = (steps r run ≡ []) × (now ≡ views) × (h ≡ g)
+PickedTo r key run views g entries moments (Some grew) now h = IsAt r key (next r (next r run)) now h (entries + cond grew 1 0) moments
 
 -- a choice of any run that the seats stand at
 abbrev pub Picked : List SeatView → ChaCha → Option Bool → List SeatView → ChaCha → Type 0
 Picked views g told now h =
-    (r : Rules) (key : List ℕ) (run : Run) (entries : ℕ) → AreRules r key r.turns → IsAt r key run views g entries → is_spent r run ≡ false → PickedTo r key run views g entries told now h
+    (r : Rules) (key : List ℕ) (run : Run) (entries : ℕ) (moments : List Moment) → AreRules r key r.turns
+    → IsAt r key run views g entries moments → is_spent r run ≡ false → PickedTo r key run views g entries moments told now h

@@ -21,12 +21,15 @@ use Rattle.sim_sched.specs.Simulating.{word_of}
 abbrev pub seed_bytes : ℕ → List ℕ
 seed_bytes seed = to_be_bytes w64 seed ++ replicate 24 0
 
--- the rules of a run of a script: the generator's words and the limit of entries are the script's
+-- the rules of a run of a script without timeout lines and without patience: the generator's words and the limit of entries are the
+-- script's
 abbrev pub rules_of : Script → List Maker → List (ReplicaId × Pending) → Rules
 rules_of script makers requests = record {
   script = script;
   makers = makers;
   requests = requests;
+  lines = [];
+  patience = 0;
   word = word_of (key_of (seed_bytes script.seed));
   turns = script.turns;
 }

@@ -25,6 +25,7 @@ fn act_of(mover: Mover) -> Act
         Mover::Emit => Act::Emit,
         Mover::Execute => Act::Execute,
         Mover::Checkpoint => Act::Checkpoint,
+        Mover::Timeout => Act::Timeout,
     }
 }
 
@@ -95,7 +96,10 @@ impl<P: Party> Seat<P> {
         match reader.read(copy.load.as_slice())? {
             Ok(message) => match self.party.act(Act::Hear(copy.origin, message)) {
                 Told::NoMemory => Err(NoMemory),
-                _ => Ok(true),
+                told => {
+                    drop(told);
+                    Ok(true)
+                }
             },
             Err(refusal) => {
                 self.note(copy.origin, copy.number, refusal)?;
@@ -112,7 +116,11 @@ impl<P: Party> Seat<P> {
             × (told.0 ≡ journals.moves (P.made self.old.party) (P.journal self.old.party) mover)) }
     {
         match self.party.act(act_of(mover)) {
-            Told::Core(answer) => Ok((makes_entry(&answer), Rows::new(alloc))),
+            Told::Core(answer) => {
+                let entered = makes_entry(&answer);
+                drop(answer);
+                Ok((entered, Rows::new(alloc)))
+            }
             Told::Out(parcels) => Ok((true, parcels)),
             Told::KeySpent { .. } => Ok((false, Rows::new(alloc))),
             Told::NoMemory => Err(NoMemory),

@@ -3,11 +3,12 @@
 //!
 //! Before each event the run is over where the journals together have as many entries as the script allows. Else the steps that can be
 //! made are counted: for each replica by id one for each copy on its way, in the order put, then a batch, a sending, an executing and
-//! a Checkpoint, each where it would make an entry. The generator's next word picks one of them; it is found by walking the seats, and no list of steps
-//! is ever made. Where there is none, each replica by id is nudged; where no nudge moves one, the run has ended.
+//! a Checkpoint, each where it would make an entry. The generator's next word picks one of them; it is found by walking the seats, and no
+//! list of steps is ever made. Where there is none, it is a quiet moment: how many entries each journal has is noted, and each replica by
+//! id is nudged; where no nudge moves one, the run has ended. Timeouts and patience are no part of a run yet.
 //!
-//! A parcel's bytes move from a party's answer to the copy on its way, and with it to the hearing; they are never copied. A copy that a
-//! replica refuses is noted by its number, and is let go.
+//! A parcel's bytes move from a party's answer to the copy on its way, and with it to the hearing; they are copied only where a parcel
+//! passes more than once. A copy that a replica refuses is noted by its number, and is let go.
 //!
 //! Modules: `seats` has a replica's place in a run, `acting` the events at one seat (what a receiver makes of bytes is `copy_reader`'s),
 //! `choosing` counts and finds steps, `putting` brings copies to their receivers, `stepping` makes one step, `playing` has the rules and quiet

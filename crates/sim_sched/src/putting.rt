@@ -1,14 +1,15 @@
 //! Copies come to their receivers.
 ghost use Rattle.std.specs.Prelude.{◌≡◌, ℕ, ◌+◌, ◌<◌, ◌≤◌, Bool, true, false, [], ◌∷◌, map, length, IfOk, MatchOption, slice_index_or};
+ghost use Rattle.std.specs.List.{flat_map};
 ghost use Rattle.fab_base.specs.declared.ids.ReplicaId.{ReplicaId};
 ghost use Rattle.run_words.specs.Keyed.{is_same};
-ghost use Rattle.run_words.specs.Runs.{copy_of};
+ghost use Rattle.run_words.specs.Runs.{copies_of};
 ghost use Rattle.sim_sched.specs.Seats.{seen, receive};
 ghost use Rattle.sim_sched.specs.Putting.{IsNone, AreDistinct, ids_of, with_copy};
 
 use crate::seats::Seat;
 use fab_base::{NoMemory, ReplicaId};
-use run_words::{Origin, Parcels, Party, Pending};
+use run_words::{Origin, Parcel, Parcels, Party, Pending};
 
 /// Whether two ids are the same.
 #[tactic(auto, unfolding(run_words::specs::Keyed::is_same))]
@@ -59,6 +60,41 @@ fn put_copy<P: Party>(
     }
 }
 
+/// A parcel comes to its receiver as often as it passes, with a copy of its bytes for each time but the last.
+fn put_parcel<P: Party>(
+    seats: &mut [Seat<P>],
+    ids: &[ReplicaId],
+    from: ReplicaId,
+    parcel: Parcel,
+) -> Result<(), NoMemory>
+    requires named { ids.now ≡ ids_of (map (seen P.made P.journal P.shut) seats.old) }
+    requires apart { AreDistinct ids.now }
+    ensures { IfOk result (λ done. map (seen P.made P.journal P.shut) seats.new
+        ≡ map (receive (copies_of from parcel)) (map (seen P.made P.journal P.shut) seats.old)) }
+{
+    let Some(again) = parcel.passes.checked_sub(1) else {
+        return Ok(());
+    };
+    let origin = Origin::Replica {
+        from,
+        time: parcel.time,
+    };
+    for _ in 0..again {
+        let copy = Pending {
+            origin,
+            number: parcel.number,
+            load: parcel.bytes.copy()?,
+        };
+        put_copy(seats, ids, parcel.to, copy)?;
+    }
+    let copy = Pending {
+        origin,
+        number: parcel.number,
+        load: parcel.bytes,
+    };
+    put_copy(seats, ids, parcel.to, copy)
+}
+
 /// Parcels come to their receivers.
 pub(crate) fn deliver<P: Party>(
     seats: &mut [Seat<P>],
@@ -69,18 +105,10 @@ pub(crate) fn deliver<P: Party>(
     requires named { ids.now ≡ ids_of (map (seen P.made P.journal P.shut) seats.old) }
     requires apart { AreDistinct ids.now }
     ensures { IfOk result (λ done. map (seen P.made P.journal P.shut) seats.new
-        ≡ map (receive (map (copy_of from) parcels)) (map (seen P.made P.journal P.shut) seats.old)) }
+        ≡ map (receive (flat_map (copies_of from) parcels)) (map (seen P.made P.journal P.shut) seats.old)) }
 {
     for parcel in parcels.into_vec() {
-        let copy = Pending {
-            origin: Origin::Replica {
-                from,
-                time: parcel.time,
-            },
-            number: parcel.number,
-            load: parcel.bytes,
-        };
-        put_copy(seats, ids, parcel.to, copy)?;
+        put_parcel(seats, ids, from, parcel)?;
     }
     Ok(())
 }

@@ -1,5 +1,5 @@
 //! The whole run of a script.
-ghost use Rattle.std.specs.Prelude.{◌≡◌, ℕ, false, map, length, IfOk};
+ghost use Rattle.std.specs.Prelude.{◌≡◌, ℕ, false, [], map, length, IfOk};
 ghost use Rattle.run_words.specs.Runs.{IsSchedule};
 ghost use Rattle.rand_chacha.specs.ChaCha.{of_seed};
 ghost use Rattle.sim_sched.specs.Seats.{seen, receive, AllOpen};
@@ -17,7 +17,7 @@ use fab_base::{Members, NoMemory, ReplicaId, Rows};
 use fault_script::Script;
 use rand_chacha::ChaCha8Rng;
 use rand_core::SeedableRng;
-use run_words::{Party, Pending, Trace, Traces, Transcript};
+use run_words::{Moments, Party, Pending, Trace, Traces, Transcript};
 use std::alloc::Global;
 
 /// The bytes of the generator's key.
@@ -73,7 +73,8 @@ impl<P: Party> Seat<P> {
     }
 }
 
-/// The run at seats that stand ready: the requests come, and then it is played. Whether it was cut off.
+/// The run at seats that stand ready: the requests come, and then it is played; its quiet moments are added to those that are given.
+/// Whether it was cut off.
 fn run_seats<P: Party>(
     seats: &mut [Seat<P>],
     ids: &[ReplicaId],
@@ -81,20 +82,23 @@ fn run_seats<P: Party>(
     reader: &Reader,
     turns: u64,
     seed: u64,
+    moments: &mut Moments,
 ) -> Result<bool, NoMemory>
     requires ready { IsReady reader.now.members.now reader.now.ring.now ids.now (map (seen P.made P.journal P.shut) seats.old) }
     requires apart { AreDistinct ids.now }
     ensures open { IfOk result (λ spent. AllOpen (map (seen P.made P.journal P.shut) seats.new)) }
     ensures played { IfOk result (λ spent. Played turns (map (receive requests.items)
-        (map (seen P.made P.journal P.shut) seats.old)) (of_seed (seed_bytes seed)) spent (map (seen P.made P.journal P.shut) seats.new)) }
+        (map (seen P.made P.journal P.shut) seats.old)) (of_seed (seed_bytes seed)) moments.old spent
+        (map (seen P.made P.journal P.shut) seats.new) moments.new) }
 {
     deliver_requests(seats, ids, requests)?;
     let mut generator = ChaCha8Rng::from_seed(seed_of(seed));
-    play(seats, ids, reader, turns, &mut generator)
+    play(seats, ids, reader, turns, &mut generator, moments)
 }
 
 /// Runs a script. The answer is the transcript of the one run that its rules fix, and whether the run was cut off because the journals
-/// together had the script's `turns` entries; want of memory, of this call or of a party, is the one other answer.
+/// together had the script's `turns` entries; want of memory, of this call or of a party, is the one other answer. The rules have neither
+/// timeouts nor patience: the run has ended once no nudge moves a replica.
 ///
 /// `ids` are those of the parties, in the order of replicas; all are apart, each party was made with these members and this ring, has no
 /// entry yet and is open. `requests` are the signed requests of the script as copies on their way, each with its receiver, in the order
@@ -123,11 +127,21 @@ pub fn simulate<P: Party>(
         ring,
     };
     let turns = u64::from(script.turns);
-    let spent = run_seats(&mut seats, ids, requests, &reader, turns, script.seed)?;
+    let mut moments = Rows::new(alloc);
+    let spent = run_seats(
+        &mut seats,
+        ids,
+        requests,
+        &reader,
+        turns,
+        script.seed,
+        &mut moments,
+    )?;
     let traces = collect(alloc, seats)?;
     let transcript = Transcript {
         script,
         traces,
+        moments,
         timeouts_left: 0,
     };
     Ok((transcript, spent))

@@ -1,15 +1,14 @@
 -- The letters of parcels, and their copies.
-use Rattle.std.proofs.Common.{◌≡◌, ℕ, zero, suc, Bool, true, false, cond, List, [], ◌∷◌, ◌++◌, map, replicate, refl, sym, ap, ◌∙◌, inl, inr, append_assoc}
+use Rattle.std.proofs.Common.{◌≡◌, ℕ, zero, suc, Bool, true, false, cond, List, [], ◌∷◌, ◌++◌, map, replicate, refl, sym, ap, ◌∙◌, append_assoc}
 use Rattle.std.specs.List.{flat_map}
 use Rattle.std.proofs.lemmas.List.{map-append}
 use Rattle.fab_base.specs.declared.ids.ReplicaId.{ReplicaId}
-use Rattle.fab_rules.specs.Lists.{In}
 use Rattle.run_words.specs.Keyed.{is_same, of}
-use Rattle.run_words.specs.Runs.{copy_of}
+use Rattle.run_words.specs.Runs.{copy_of, copies_of}
 use Rattle.run_words.specs.declared.logs.Parcel.{Parcel}
 use Rattle.run_words.specs.declared.logs.Pending.{Pending}
 use Rattle.run_words.proofs.Keys.{of-append}
-use Rattle.stage_looks.specs.Letters.{letter_of, letters_of, letters_to, copy_from, copies_of, CopiesLaw, OnceLaw}
+use Rattle.stage_looks.specs.Letters.{letter_of, letters_of, letters_to, copy_from, CopiesLaw}
 
 pub letters_both : (to : ReplicaId) (a b : List Parcel) → letters_to to (a ++ b) ≡ letters_to to a ++ letters_to to b
 letters_both to [] b = refl
@@ -48,13 +47,3 @@ copies from to (p ∷ rest) =
     ∙ ap (λ l. l ++ map (copy_from from) (letters_to to rest)) (copies_one from to p)
     ∙ ap (λ l. of to (copies_of from p) ++ l) (copies from to rest)
     ∙ sym (of-append to (copies_of from p) (flat_map (copies_of from) rest))
-
-single : (from : ReplicaId) (parcels : List Parcel) → ((p : Parcel) → In p parcels → p.passes ≡ 1)
-    → flat_map (copies_of from) parcels ≡ map (copy_of from) parcels
-single from [] h = refl
-single from (p ∷ rest) h =
-    ap (λ n. replicate n (copy_of from p) ++ flat_map (copies_of from) rest) (h p (inl refl))
-    ∙ ap (λ l. copy_of from p ∷ l) (single from rest (λ q i. h q (inr i)))
-
-pub once : OnceLaw
-once from to parcels h = copies from to parcels ∙ ap (of to) (single from parcels h)

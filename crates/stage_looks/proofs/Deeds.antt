@@ -116,3 +116,4 @@ module _ {P : Type 0} (made : P → Maker) (first : P) where
   keeps_doing Mover.Emit answer v w n h a = absurd (n refl)
   keeps_doing Mover.Execute answer v w n h a = kinds made first v w Act.Execute answer h a
   keeps_doing Mover.Checkpoint answer v w n h a = kinds made first v w Act.Checkpoint answer h a
+  keeps_doing Mover.Timeout answer v w n h a = kinds made first v w Act.Timeout answer h a

@@ -3,3 +3,4 @@ mod Holding
 mod Feeding
 mod Copied
 mod Outgoing
+mod Fresh

@@ -2,9 +2,8 @@
 use Rattle.std.specs.Prelude.{◌≡◌, cond, List, [], ◌∷◌, ◌++◌, map, replicate}
 use Rattle.std.specs.List.{flat_map}
 use Rattle.fab_base.specs.declared.ids.ReplicaId.{ReplicaId}
-use Rattle.fab_rules.specs.Lists.{In}
 use Rattle.run_words.specs.Keyed.{is_same, of}
-use Rattle.run_words.specs.Runs.{copy_of}
+use Rattle.run_words.specs.Runs.{copies_of}
 use Rattle.run_words.specs.declared.logs.Origin.{Origin}
 use Rattle.run_words.specs.declared.logs.Parcel.{Parcel}
 use Rattle.run_words.specs.declared.logs.Pending.{Pending}
@@ -26,18 +25,8 @@ letters_to to (p ∷ rest) = cond (is_same to p.to) (letters_of p) [] ++ letters
 abbrev pub copy_from : ReplicaId → Letter → Pending
 copy_from from l = record { origin = Origin.Replica from l.time; number = l.parcel; load = l.bytes }
 
--- the copies of a parcel, as many as it passes
-abbrev pub copies_of : ReplicaId → Parcel → List (ReplicaId × Pending)
-copies_of from p = replicate p.passes (copy_of from p)
-
--- ---- the laws
+-- ---- the law
 
 -- the letters of a sender to a receiver are the copies to it of what the sender put, in order
 abbrev pub CopiesLaw : Type 0
 CopiesLaw = (from to : ReplicaId) (parcels : List Parcel) → map (copy_from from) (letters_to to parcels) ≡ of to (flat_map (copies_of from) parcels)
-
--- where each parcel passes once, each has one copy
-abbrev pub OnceLaw : Type 0
-OnceLaw =
-    (from to : ReplicaId) (parcels : List Parcel) → ((p : Parcel) → In p parcels → p.passes ≡ 1)
-    → map (copy_from from) (letters_to to parcels) ≡ of to (map (copy_of from) parcels)

@@ -28,6 +28,11 @@ abbrev pub AreApart : List Outlet → Type 0
 AreApart [] = Unit {0}
 AreApart (o ∷ rest) = HasNone o.to rest × AreApart rest
 
+-- nothing was pushed on any
+abbrev pub AreUnused : List Outlet → Type 0
+AreUnused [] = Unit {0}
+AreUnused (o ∷ rest) = (pushed o.link ≡ []) × AreUnused rest
+
 -- the same ends of the same links, to the same receivers
 abbrev pub AreSameOutlets : List Outlet → List Outlet → Type 0
 AreSameOutlets [] [] = Unit {0}

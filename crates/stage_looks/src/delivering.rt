@@ -2,10 +2,12 @@
 
 ghost use Rattle.std.specs.Prelude.{◌≡◌, ◌≢◌, ◌++◌, ◌∷◌, [], None, IsNone, option_to_list};
 ghost use Rattle.run_words.specs.declared.movers.Mover as movers;
+ghost use Rattle.turn_lock.specs.Views.{own};
 ghost use Rattle.turn_lock.specs.Passes.{view, first_machine};
+ghost use Rattle.party_turn.specs.Turns.{PartyTurn, IsPartyPass};
 ghost use Rattle.stage_workers.specs.declared.look.Look.TheVariants.{Idle, NoMemory as NoMemoryLook};
 ghost use Rattle.stage_looks.specs.Acts.{IsStill};
-ghost use Rattle.stage_looks.specs.Sending.{Delivers, FitsOutput, IsSameOutput, unsent, put_by};
+ghost use Rattle.stage_looks.specs.Sending.{AreApart, AreUnused, Delivers, FitsOutput, IsSameOutput, unsent, put_by};
 
 use crate::outlets::{Outlet, post};
 use crate::sending::{Sent, emit};
@@ -33,6 +35,24 @@ pub struct OutputHand<P: Party> {
 }
 
 impl<P: Party> OutputHand<P> {
+    /// A hand that has sent nothing yet. Its pass is one under whose numbers nothing was entered, and on its links, of which no two lead to one
+    /// receiver, nothing was pushed. Takes no memory.
+    pub fn new(alloc: Global, act: Pass<Acting<P>>, outlets: Vec<Outlet>) -> OutputHand<P>
+        requires fresh { own (view act) ≡ [] }
+        requires apart { AreApart outlets.items }
+        requires unused { AreUnused outlets.items }
+        ensures fits { (turn : PartyTurn P) → IsPartyPass P.made turn act → FitsOutput P.made turn result }
+        ensures is { (result.act ≡ act) × (result.outlets ≡ outlets) × (unsent result ≡ []) × (result.told ≡ 0) }
+    {
+        OutputHand {
+            act,
+            outlets,
+            first: None,
+            rest: Vec::new(alloc).into_iter(),
+            told: 0,
+        }
+    }
+
     /// The first of the parcels that it has to send.
     fn next_parcel(&mut self) -> Option<Parcel>
         ensures parcels { unsent self.old ≡ option_to_list result ++ unsent self.new }

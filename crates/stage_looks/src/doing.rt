@@ -36,6 +36,7 @@ fn act_of(mover: Mover) -> Act
         Mover::Emit => Act::Emit,
         Mover::Execute => Act::Execute,
         Mover::Checkpoint => Act::Checkpoint,
+        Mover::Timeout => Act::Timeout,
     }
 }
 
@@ -56,7 +57,7 @@ fn did_of(answer: Answered) -> Did
     }
 }
 
-/// What a replica does of its own accord, but for sending, in one claim of the turn: Batch, Nudge, Execute or Checkpoint.
+/// What a replica does of its own accord, but for sending, in one claim of the turn: Batch, Nudge, Execute, Checkpoint or Timeout.
 ///
 /// `Nothing` comes where the replica could do nothing after a beginning of its history with so many entries; where that turns out to be the
 /// whole of it, the replica has nothing of this kind to do. `Lost` comes where memory was refused, now or before.

@@ -4,7 +4,7 @@ ghost use Rattle.std.specs.Prelude.{◌≡◌};
 ghost use Rattle.fab_base.specs.declared.ids.ReplicaId as ids;
 ghost use Rattle.run_words.specs.Runs.{copy_of};
 ghost use Rattle.run_words.specs.declared.logs.Parcel as parcels;
-ghost use Rattle.stage_looks.specs.Letters.{letter_of, copy_from, CopiesLaw, OnceLaw};
+ghost use Rattle.stage_looks.specs.Letters.{letter_of, copy_from, CopiesLaw};
 
 use fab_base::{Bytes, ReplicaId};
 use run_words::{Origin, Pending};
@@ -42,8 +42,7 @@ pub fn letter_law()
 {}
 
 /// The letters of a sender's parcels to a receiver, read as copies on the sender's link, are the copies of these parcels to that receiver, in order
-/// and each as often as it passes (`copies`); where each passes once they are the parcels' copies, one of each (`once`).
+/// and each as often as it passes.
 pub fn letters_law()
-    ensures copies { CopiesLaw }
-    ensures once { OnceLaw }
+    ensures { CopiesLaw }
 {}

@@ -7,7 +7,8 @@
 //!   [`InputHand::look`] puts what was read. What it put and holds is what a replica with the reader's members and keys reads of what it took, and what it
 //!   refused is what such a replica refuses (`Feeding`).
 //! - [`OrderHand`] has the consumer's pass and a pass of the turn. What it heard, and then what it holds, is what it took, in order (`Ordering`).
-//! - [`MoverHand`] has a pass of the turn, and does one thing: Batch, Execute or Checkpoint. Where it is idle there was nothing to do (`Moving`).
+//! - [`MoverHand`] has a pass of the turn, and does one thing of the replica's own accord, but for sending: Batch, Execute or Checkpoint. Where it is idle
+//!   there was nothing to do (`Moving`). [`advance`] does such a thing once, for who has a pass and no hand: a Nudge, or a Timeout.
 //! - [`OutputHand`] has a pass of the turn and an [`Outlet`] to each receiver. What was pushed on a link, and then what is in hand for its receiver, is the
 //!   letters to it of all parcels that its acts put, in order (`Sending`). A [`Letter`] on the link of its sender is the copy that its parcel is on
 //!   its way ([`letters_law`]).
@@ -27,8 +28,7 @@
 //!     said => said,
 //! };
 //!
-//! let rest = Vec::new(alloc).into_iter();
-//! let mut hand = OutputHand { act, outlets, first: None, rest, told: 0 };
+//! let mut hand = OutputHand::new(alloc, act, outlets);
 //! while hand.look(&turn) == Look::Moved {}
 //! ```
 //!

@@ -1,7 +1,10 @@
-//! The batch, execute and checkpoint workers.
+//! The workers that do one thing of the replica's own accord: batch, execute and checkpoint.
 
-ghost use Rattle.std.specs.Prelude.{◌≡◌};
+ghost use Rattle.std.specs.Prelude.{◌≡◌, ◌≢◌, []};
+ghost use Rattle.turn_lock.specs.Views.{own};
 ghost use Rattle.turn_lock.specs.Passes.{view, numbers, first_machine};
+ghost use Rattle.run_words.specs.declared.movers.Mover as movers;
+ghost use Rattle.party_turn.specs.Turns.{PartyTurn, IsPartyPass};
 ghost use Rattle.stage_workers.specs.declared.look.Look.TheVariants.{Idle};
 ghost use Rattle.stage_looks.specs.Acts.{IsStill};
 ghost use Rattle.stage_looks.specs.Moving.{FitsMover};
@@ -18,13 +21,27 @@ use turn_lock::{Pass, Turn};
 pub struct MoverHand<P: Party> {
     /// Its pass of the turn.
     pub act: Pass<Acting<P>>,
-    /// What it does: Batch, Execute or Checkpoint.
+    /// What it does: Batch, Nudge, Execute, Checkpoint or Timeout, and never Emit.
     pub mover: Mover,
     /// How many entries there were when it last found nothing to do.
     pub told: u64,
 }
 
 impl<P: Party> MoverHand<P> {
+    /// A hand that has done nothing yet. Its pass is one under whose numbers nothing was entered. Takes no memory.
+    pub fn new(act: Pass<Acting<P>>, mover: Mover) -> MoverHand<P>
+        requires fresh { own (view act) ≡ [] }
+        requires own { mover ≢ movers.Mover.Emit }
+        ensures fits { (turn : PartyTurn P) → IsPartyPass P.made turn act → FitsMover P.made turn result }
+        ensures is { (result.act ≡ act) × (result.mover ≡ mover) × (result.told ≡ 0) }
+    {
+        MoverHand {
+            act,
+            mover,
+            told: 0,
+        }
+    }
+
     /// One look: it does what it can, in one claim of the turn.
     ///
     /// `Idle` comes where there was nothing to do after as many entries as `told` then says, and `NoMemory` where memory was refused, now or

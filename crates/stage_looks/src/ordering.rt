@@ -1,10 +1,15 @@
 //! The order worker.
 
 ghost use Rattle.std.specs.Prelude.{◌≡◌, ◌≢◌, [], ◌∷◌, true, false, None, IfSome, IsNone};
-ghost use Rattle.turn_lock.specs.Passes.{numbers};
+ghost use Rattle.turn_lock.specs.Views.{own};
+ghost use Rattle.turn_lock.specs.Passes.{view, numbers};
+ghost use Rattle.stage_link.specs.Queues.{known, IsQueuePass};
+ghost use Rattle.stage_link.specs.declared.queue.StageQueue as queues;
+ghost use Rattle.party_turn.specs.Turns.{PartyTurn, IsPartyPass};
 ghost use Rattle.stage_workers.specs.declared.look.Look.TheVariants.{Idle, NoMemory as NoMemoryLook};
 ghost use Rattle.stage_looks.specs.Items.{entry_of};
 ghost use Rattle.stage_looks.specs.Ordering.{Holds, FitsOrder, AreOfParty, IsSameOrder};
+ghost use Rattle.stage_looks.specs.declared.items.Item as items;
 
 use crate::hearing::{Heard, hear};
 use crate::items::Item;
@@ -31,6 +36,22 @@ pub struct OrderHand<P: Party> {
 }
 
 impl<P: Party> OrderHand<P> {
+    /// A hand that has taken and heard nothing yet. Its pass of the queue is the consumer's, which may have been split for producers before; its pass
+    /// of the turn is one under whose numbers nothing was entered. Takes no memory.
+    pub fn new(take: QueuePass<Item>, act: Pass<Acting<P>>) -> OrderHand<P>
+        requires none { (known take).took ≡ [] }
+        requires fresh { own (view act) ≡ [] }
+        ensures fits { (turn : PartyTurn P) (queue : queues.StageQueue items.Item) → IsQueuePass queue take → (known take).takes ≡ true → IsPartyPass P.made turn act → FitsOrder P.made turn queue result }
+        ensures is { (result.take ≡ take) × (result.act ≡ act) × (result.held ≡ None) × (result.lost ≡ false) }
+    {
+        OrderHand {
+            take,
+            act,
+            held: None,
+            lost: false,
+        }
+    }
+
     /// The item that it holds.
     fn held_item(&mut self, turn: &Turn<Acting<P>>, queue: &StageQueue<Item>) -> Option<Item>
         requires fits { FitsOrder P.made turn.now queue.now self.old }

@@ -1,10 +1,15 @@
 //! An input worker.
 
-ghost use Rattle.std.specs.Prelude.{◌≡◌, ◌++◌, ◌∷◌, [], List, OnOk, OnErr, None};
+ghost use Rattle.std.specs.Prelude.{◌≡◌, ◌++◌, ◌∷◌, [], List, OnOk, OnErr, None, true};
+ghost use Rattle.fab_base.specs.Limits.{Roster};
+ghost use Rattle.bft_verify.specs.Ring as rings;
+ghost use Rattle.stage_link.specs.Queues.{known, IsQueuePass};
+ghost use Rattle.stage_link.specs.declared.queue.StageQueue as queues;
 ghost use Rattle.run_words.specs.Runs.{turned_by};
 ghost use Rattle.run_words.specs.declared.logs.Pending as pendings;
 ghost use Rattle.stage_workers.specs.declared.look.Look.TheVariants.{Idle};
 ghost use Rattle.stage_looks.specs.Feeding.{IsFeeder, FitsInput, IsFree, IsToldOf, IsHandedOn, IsSameProducer};
+ghost use Rattle.stage_looks.specs.declared.items.Item as items;
 
 use crate::items::Item;
 use bft_verify::Refusal;
@@ -14,6 +19,7 @@ use fab_base::NoMemory;
 use run_words::{Origin, Pending, Turned, TurnedList};
 use stage_link::{Full, QueuePass, StageQueue};
 use stage_workers::Look;
+use std::alloc::Global;
 use std::sync::Wait;
 
 /// What an input worker owns, beside the links that it pops.
@@ -30,6 +36,21 @@ pub struct InputHand {
 }
 
 impl InputHand {
+    /// A hand that has taken, put and refused nothing yet. Its pass is a producer's that has put nothing. Takes no memory.
+    pub fn new(alloc: Global, put: QueuePass<Item>) -> InputHand
+        requires none { (known put).put ≡ [] }
+        ensures fits { (queue : queues.StageQueue items.Item) → IsQueuePass queue put → (known put).puts ≡ true → FitsInput queue result }
+        ensures feeds { (members : Roster) (ring : rings.Ring) → IsFeeder members ring [] result }
+        ensures is { (result.put ≡ put) × (result.held ≡ None) × (result.kept ≡ None) × (result.refused ≡ []) }
+    {
+        InputHand {
+            put,
+            held: None,
+            kept: None,
+            refused: TurnedList::new(alloc),
+        }
+    }
+
     /// Notes that a copy was refused: a parcel by its number; a request of a client isn't noted.
     fn note(&mut self, origin: Origin, number: u64, refusal: Refusal) -> Result<(), NoMemory>
         ensures ok { OnOk result (self.new.refused ≡ self.old.refused ++ turned_by number refusal origin) }

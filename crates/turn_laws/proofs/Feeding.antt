@@ -82,10 +82,11 @@ copy_by Entry.Nudged = []
 copy_by (Entry.Sent item) = []
 copy_by Entry.Executed = []
 copy_by Entry.Marked = []
+copy_by Entry.TimedOut = []
 
-abbrev pub copies_of : List Entry → List Pending
-copies_of [] = []
-copies_of (e ∷ rest) = copy_by e ++ copies_of rest
+abbrev pub spelled_of : List Entry → List Pending
+spelled_of [] = []
+spelled_of (e ∷ rest) = copy_by e ++ spelled_of rest
 
 copy_counted : (p : Test) (e : Entry) → pending_counted p (copy_by e) ≡ heard_once p e
 copy_counted p (Entry.Heard origin x) =
@@ -97,13 +98,14 @@ copy_counted p Entry.Nudged = refl
 copy_counted p (Entry.Sent item) = refl
 copy_counted p Entry.Executed = refl
 copy_counted p Entry.Marked = refl
+copy_counted p Entry.TimedOut = refl
 
-pub copies_counted_of : (p : Test) (l : List Entry) → pending_counted p (copies_of l) ≡ heard_counted p l
-copies_counted_of p [] = refl
-copies_counted_of p (e ∷ rest) =
-    let later = copies_counted_of p rest in
+pub spelled_counted : (p : Test) (l : List Entry) → pending_counted p (spelled_of l) ≡ heard_counted p l
+spelled_counted p [] = refl
+spelled_counted p (e ∷ rest) =
+    let later = spelled_counted p rest in
     let here = copy_counted p e in
-    let a = counted_both p (copy_by e) (copies_of rest) in
+    let a = counted_both p (copy_by e) (spelled_of rest) in
     let b = sum_by-cons (λ (y : Entry). heard_once p y) e rest in
     omega (arith, later, here, a, b)
 
@@ -160,52 +162,66 @@ no_sum : (f : Maker → ℕ) (makers : List Maker) → ((n : Maker) → f n ≡ 
 no_sum f [] h = refl
 no_sum f (x ∷ rest) h = let a = sum_by-cons f x rest in let b = no_sum f rest h in let c = h x in omega arith
 
-module _ (p : Test) (makers : List Maker) (c : Pending) (rest : List Pending) where
+module _ (f : Pending → ℕ) (makers : List Maker) (c : Pending) (rest : List Pending) where
   abbrev before : Maker → ℕ
-  before n = pending_counted p (from n.id rest)
+  before n = sum_by f (from n.id rest)
 
   abbrev after : Maker → ℕ
-  after n = pending_counted p (from n.id (c ∷ rest))
+  after n = sum_by f (from n.id (c ∷ rest))
 
-  asked_more : (b : Bool) → is_asked c.origin ≡ b → pending_counted p (asked (c ∷ rest)) ≡ pending_counted p (cond b (c ∷ asked rest) (asked rest))
-  asked_more b e = ap (λ x. pending_counted p (cond x (c ∷ asked rest) (asked rest))) e
+  asked_more : (b : Bool) → is_asked c.origin ≡ b → sum_by f (asked (c ∷ rest)) ≡ sum_by f (cond b (c ∷ asked rest) (asked rest))
+  asked_more b e = ap (λ x. sum_by f (cond x (c ∷ asked rest) (asked rest))) e
 
-  from_more : (n : Maker) (b : Bool) → is_from n.id c.origin ≡ b → after n ≡ pending_counted p (cond b (c ∷ from n.id rest) (from n.id rest))
-  from_more n b e = ap (λ x. pending_counted p (cond x (c ∷ from n.id rest) (from n.id rest))) e
+  from_more : (n : Maker) (b : Bool) → is_from n.id c.origin ≡ b → after n ≡ sum_by f (cond b (c ∷ from n.id rest) (from n.id rest))
+  from_more n b e = ap (λ x. sum_by f (cond x (c ∷ from n.id rest) (from n.id rest))) e
 
   abbrev Parts : List Pending → Type 0
-  Parts l = pending_counted p (asked l) + sum_by (λ (n : Maker). pending_counted p (from n.id l)) makers ≡ pending_counted p l
+  Parts l = sum_by f (asked l) + sum_by (λ (n : Maker). sum_by f (from n.id l)) makers ≡ sum_by f l
 
   by_client : is_asked c.origin ≡ true → ((n : Maker) → is_from n.id c.origin ≡ false) → Parts rest → Parts (c ∷ rest)
   by_client e h later =
       let a = asked_more true e in
-      let first = counted_first p c (asked rest) in
+      let first = sum_by-cons f c (asked rest) in
       let same = same_sums before after makers (λ n i. from_more n false (h n)) in
-      let w = counted_first p c rest in
+      let w = sum_by-cons f c rest in
       omega (arith, a, first, same, later, w)
 
   by_replica : (s : Maker) → is_asked c.origin ≡ false → AreApart makers → IsIn s makers → is_from s.id c.origin ≡ true
       → ((n : Maker) → is_same n.id s.id ≡ false → is_from n.id c.origin ≡ false)
       → Parts rest → Parts (c ∷ rest)
-  by_replica s e a i f h later =
+  by_replica s e a i g h later =
       let none = asked_more false e in
-      let first = counted_first p c (from s.id rest) in
-      let grown = from_more s true f in
-      let here : after s ≡ before s + one_copy p c = omega (arith, first, grown) in
-      let sum = one_more before after s (one_copy p c) makers a i here (λ n d. from_more n false (h n d)) in
-      let w = counted_first p c rest in
+      let first = sum_by-cons f c (from s.id rest) in
+      let grown = from_more s true g in
+      let here : after s ≡ before s + f c = omega (arith, first, grown) in
+      let sum = one_more before after s (f c) makers a i here (λ n d. from_more n false (h n d)) in
+      let w = sum_by-cons f c rest in
       omega (arith, none, sum, later, w)
 
   by_origin : (o : Origin) → c.origin ≡ o → AreApart makers → IsKnown makers o → Parts rest → Parts (c ∷ rest)
   by_origin (Origin.Client k) e a h later = by_client (ap is_asked e) (λ n. ap (is_from n.id) e) later
-  by_origin (Origin.Replica f time) e a h later =
+  by_origin (Origin.Replica i time) e a h later =
       let s = h.0 in
       by_replica s (ap is_asked e) a (in_makers s makers h.1)
       (ap (is_from s.id) e ∙ ap (is_same s.id) (sym h.2) ∙ same_self s.id)
       (λ n d. ap (is_from n.id) e ∙ ap (is_same n.id) (sym h.2) ∙ d) later
 
-pub parted : (p : Test) (makers : List Maker) (l : List Pending) → AreApart makers → ((c : Pending) → In c l → IsKnown makers c.origin)
-    → pending_counted p (asked l) + sum_by (λ (n : Maker). pending_counted p (from n.id l)) makers ≡ pending_counted p l
-parted p makers [] a k = let z = no_sum (λ (n : Maker). pending_counted p (from n.id [])) makers (λ n. refl) in let none : pending_counted p [] ≡ 0 = refl in omega (arith, z, none)
-parted p makers (c ∷ rest) a k =
-    by_origin p makers c rest c.origin refl a (k c (inl refl)) (parted p makers rest a (λ x i. k x (inr i)))
+-- whatever is summed over copies
+pub parted : (f : Pending → ℕ) (makers : List Maker) (l : List Pending) → AreApart makers → ((c : Pending) → In c l → IsKnown makers c.origin)
+    → sum_by f (asked l) + sum_by (λ (n : Maker). sum_by f (from n.id l)) makers ≡ sum_by f l
+parted f makers [] a k =
+    let z = no_sum (λ (n : Maker). sum_by f (from n.id [])) makers (λ n. refl) in
+    let none : sum_by f [] ≡ 0 = refl in
+    omega (arith, z, none)
+parted f makers (c ∷ rest) a k =
+    by_origin f makers c rest c.origin refl a (k c (inl refl)) (parted f makers rest a (λ x i. k x (inr i)))
+
+-- what is to be heard of some copies, copy by copy
+pub items_counted : (p : Test) (m : Maker) (l : List Pending)
+    → heard_counted p (items m l) ≡ sum_by (λ (c : Pending). heard_counted p (item_by c (reads m c.load))) l
+items_counted p m [] = refl
+items_counted p m (c ∷ rest) =
+    let later = items_counted p m rest in
+    let a = sum_by-append (λ (y : Entry). heard_once p y) (item_by c (reads m c.load)) (items m rest) in
+    let b = sum_by-cons (λ (x : Pending). heard_counted p (item_by x (reads m x.load))) c rest in
+    omega (arith, later, a, b)

@@ -1,189 +1,206 @@
--- What the threads of a fleet leave behind is lawful.
-use Rattle.std.proofs.Common.{◌≡◌, ◌+◌, true, false, List, [], ◌∷◌, ◌++◌, map, Ok, Err, refl, sym, ap, subst, ◌∙◌, arith, sum_by, inl, inr}
-use Rattle.std.specs.List.{flat_map}
-use Rattle.fab_base.specs.declared.messages.Message.{Message}
+-- What the threads of a fleet leave behind is lawful, and settled where nothing is left and nothing moves.
+use Rattle.std.proofs.Common.{◌≡◌, ℕ, ◌+◌, ◌<◌, ◌≤◌, ◌⊎◌, true, false, cond, List, [], ◌∷◌, ◌++◌, map, length, Some, refl, sym, ap, subst, ◌∙◌, arith, inl, inr, length-append}
+use Rattle.std.specs.List.{slice_get, count_by, sum_by}
+use Rattle.std.proofs.lemmas.List.Sums.{sum_by-cons}
 use Rattle.fab_rules.specs.Lists.{In}
-use Rattle.fab_rules.proofs.Lists.{in_append_left}
-use Rattle.run_words.specs.Keyed.{is_same, of}
-use Rattle.run_words.specs.Journal.{Maker, parcels_of, moves, reads}
-use Rattle.run_words.specs.Runs.{Rules, Run, Declined, journal_in, waiting_in, declined_in, copy_of, turned_of, trace_of, trace_in, transcript}
-use Rattle.run_words.specs.Lawful.{Test, heard_counted, pending_counted, parcels_counted, parcel_at, Lawful, Settled, AreApart, IsRequest, Sane}
-use Rattle.run_words.specs.declared.logs.Origin.{Origin}
-use Rattle.run_words.specs.declared.logs.Pending.{Pending}
+use Rattle.fab_rules.proofs.Lists.{of_map}
+use Rattle.run_words.specs.Journal.{Maker, moves, entry_of}
+use Rattle.run_words.specs.Runs.{Rules, Run, transcript}
+use Rattle.run_words.specs.Lawful.{AreEach, IsIdle, at_moment, IsNoMore, AreRising, IsMoment, IsDue, but_last, is_named_by, AreNudged, lines_by, AreFree, free_from, timed_out_in, entries_of, Lawful, Settled, Sane}
+use Rattle.run_words.specs.declared.logs.Entry.{Entry}
+use Rattle.run_words.specs.declared.logs.Moment.{Moment}
 use Rattle.run_words.specs.declared.logs.Trace.{Trace}
 use Rattle.run_words.specs.declared.logs.Transcript.{Transcript}
 use Rattle.run_words.specs.declared.movers.Mover.{Mover}
-use Rattle.run_words.proofs.Keys.{same_self, same_is}
-use Rattle.run_words.proofs.Naming.{IsPutBy, IsPut, copies_from}
-use Rattle.run_words.proofs.Keeping.{IsTrueLog, IsFair, lawful_of, settled_of}
-use Rattle.run_words.proofs.Steps.{IsStill}
-use Rattle.run_words.proofs.Counts.{IsIn, copies_counted, declined_counted, put_by}
-use Rattle.turn_laws.specs.Copies.{from, asked, is_from, is_asked, refused, IsKnown}
-use Rattle.turn_laws.specs.Ends.{End, trace_at, AreFed, transcript_at, IsQuiet, LawfulLaw, SettledLaw}
-use Rattle.turn_laws.proofs.Tagged.{makers_at, run_at, is_in, maker_in, end_of, tag_is}
-use Rattle.turn_laws.proofs.Named.{named}
-use Rattle.turn_laws.proofs.Feeding.{copies_of, copies_counted_of, counted_both, all_read, refused_of, from_both, asked_both, in_from, in_asked, in_makers, same_sums, parted}
+use Rattle.run_words.proofs.Counts.{IsIn}
+use Rattle.run_words.proofs.Ending as ending
+use Rattle.run_words.proofs.Ending.{lawful_of, settled_of}
+use Rattle.turn_laws.specs.Ends.{End, trace_at, AreFed, IsCalm, IsQuiet}
+use Rattle.turn_laws.specs.Pauses.{Pause, moment_of, IsPause, AreOn, AreFollowed, all_entries, AreTimely, is_timed, IsPatient, HaveMoved, AreTried}
+use Rattle.turn_laws.specs.Fleets.{transcript_at, LawfulLaw, SettledLaw}
+use Rattle.turn_laws.proofs.Tagged.{run_at, end_of}
+use Rattle.turn_laws.proofs.Feeding.{in_makers}
+use Rattle.turn_laws.proofs.Fair.{fair, traces_at, still, unmoved}
+use Rattle.turn_laws.proofs.Pairs.{Grows, before_of}
+use Rattle.turn_laws.proofs.Quiets.{each_end, number_in, is_moment}
+use Rattle.turn_laws.proofs.Given.{each_on, between, Path, path_of, path_grows, get_front, get_in, due_by, IsNamedIn, nudged_on, named_by, due_on, is_due, free_few, free_on, all_timed, patience_used}
 
--- ---- the run of a fleet
+-- ---- the numbers never fall
+
+no_more : (r : Rules) (p q : Pause) → Sane r → IsPause r p → IsPause r q → AreOn Grows p.ends q.ends → IsNoMore r (moment_of p) (moment_of q)
+no_more r p q s hp hq on m i =
+    let k = end_of m q.ends (subst (IsIn m) hq.fed.makers (in_makers m r.makers i)) in
+    let b = before_of Grows p.ends q.ends k.end on k.there in
+    let x : at_moment r (moment_of p) b.end.maker.id ≡ length b.end.journal = number_in r p s hp b.end b.there in
+    let y : at_moment r (moment_of q) k.end.maker.id ≡ length k.end.journal = number_in r q s hq k.end k.there in
+    let u : at_moment r (moment_of p) b.end.maker.id ≡ at_moment r (moment_of p) m.id =
+    ap (λ (n : Maker). at_moment r (moment_of p) n.id) (sym b.holds.maker ∙ k.same) in
+    let v : at_moment r (moment_of q) k.end.maker.id ≡ at_moment r (moment_of q) m.id = ap (λ (n : Maker). at_moment r (moment_of q) n.id) k.same in
+    let long : length b.end.journal + length b.holds.journal.0 ≡ length k.end.journal =
+    sym (length-append b.end.journal b.holds.journal.0) ∙ ap length b.holds.journal.1 in
+    omega (arith, x, y, u, v, long)
+
+rising : (r : Rules) (pauses : List Pause) (ends : List End) → Sane r → ((p : Pause) → In p pauses → IsPause r p) → AreFollowed pauses ends
+    → AreRising r (map moment_of pauses)
+rising r [] ends s quiet h = tt
+rising r (p ∷ []) ends s quiet h = ((λ y i. absurd i), tt)
+rising r (p ∷ q ∷ rest) ends s quiet h = (
+  λ y i.
+      let k = of_map moment_of y (q ∷ rest) i in
+      subst (IsNoMore r (moment_of p)) k.same
+      (no_more r p k.from s (quiet p (inl refl)) (quiet k.from (inr k.is_in)) (between p q rest ends k.from h k.is_in)),
+  rising r (q ∷ rest) ends s (λ x i. quiet x (inr i)) h.1,
+)
+
+-- ---- counts
+
+timed_moments : (pauses : List Pause) → count_by (λ (x : Moment). x.timed) (map moment_of pauses) ≡ count_by is_timed pauses
+timed_moments [] = refl
+timed_moments (p ∷ rest) =
+    let later = timed_moments rest in
+    let x = sum_by-cons (λ (x : Moment). cond x.timed 1 0) (moment_of p) (map moment_of rest) in
+    let y = sum_by-cons (λ (x : Pause). cond (is_timed x) 1 0) p rest in
+    omega (arith, later, x, y)
+
+sum_ends : (f : Trace → ℕ) (ends : List End) → sum_by f (map trace_at ends) ≡ sum_by (λ (e : End). f (trace_at e)) ends
+sum_ends f [] = refl
+sum_ends f (e ∷ rest) =
+    let later = sum_ends f rest in
+    let x = sum_by-cons f (trace_at e) (map trace_at rest) in
+    let y = sum_by-cons (λ (z : End). f (trace_at z)) e rest in
+    omega (arith, later, x, y)
 
 module _ (r : Rules) (ends : List End) (sane : Sane r) (all : AreFed r ends) where
-  abbrev run : Run
-  run = run_at ends
+  abbrev traces : List Trace
+  traces = map trace_at ends
 
-  apart : AreApart (makers_at ends)
-  apart = subst AreApart all.makers sane.apart
+  -- what holds at each end
+  every : (P : Maker → Trace → Type 0) → ((e : End) → In e ends → P e.maker (trace_at e)) → AreEach P r.makers traces
+  every P h = subst (λ (ms : List Maker). AreEach P ms traces) (sym all.makers) (each_end P ends h)
 
-  journal_is : (e : End) → In e ends → journal_in run e.maker ≡ e.journal
-  journal_is e h = tag_is e (λ x. x.journal) ends apart h
+  -- ---- Nudges and Timeouts
 
-  waiting_is : (e : End) → In e ends → waiting_in run e.maker ≡ e.left ++ copies_of e.unheard
-  waiting_is e h = tag_is e (λ x. x.left ++ copies_of x.unheard) ends apart h
+  module _ (p : Pause) (rest : List Pause) (t : AreTimely r (p ∷ rest) ends) (e : End) (i : In e ends) (a : End) (ia : In a p.ends)
+      (path : Path (p ∷ rest) a e) where
+    nudged_by : (k : ℕ) → slice_get e.journal k ≡ Some Entry.Nudged → is_named_by r (map moment_of (p ∷ rest)) false e.maker.id k ≡ true
+    nudged_by k h = go (nudged_on p rest a e ia path k h)
+      where
+        go : (k < length a.journal) ⊎ IsNamedIn (p ∷ rest) false e.maker k → is_named_by r (map moment_of (p ∷ rest)) false e.maker.id k ≡ true
+        go (inl lt) =
+            let g = path_grows p rest a e path in
+            let old : slice_get a.journal k ≡ Some Entry.Nudged =
+            sym (get_front a.journal g.journal.0 k lt) ∙ ap (λ l. slice_get l k) g.journal.1 ∙ h in
+            absurd ((t.ungiven a ia).0 (get_in a.journal k Entry.Nudged old))
+        go (inr n) = named_by r (p ∷ rest) false e.maker k sane t.quiet n
 
-  declined_is : (e : End) → In e ends → declined_in run e.maker ≡ refused e.maker e.took
-  declined_is e h = tag_is e (λ x. refused x.maker x.took) ends apart h
+    due_by_then : (x : Moment) → In x (but_last (map moment_of (p ∷ rest))) → IsDue r x e.maker (trace_at e)
+    due_by_then x h =
+        let k = due_on p rest a e ia path x h in
+        let n : at_moment r (moment_of k.pause) e.maker.id ≡ length k.end.journal =
+        ap (λ (m : Maker). at_moment r (moment_of k.pause) m.id) k.same ∙ number_in r k.pause sane (t.quiet k.pause k.there) k.end k.inside in
+        let goes =
+        subst (λ (m : Maker). k.end.journal ++ (cond (moves m k.end.journal (due_by k.pause.timed)) (entry_of m k.end.journal (due_by k.pause.timed) ∷ []) [] ++ k.later) ≡ e.journal)
+        (sym k.same) k.goes in
+        subst (λ (y : Moment). IsDue r y e.maker (trace_at e)) k.is_of
+        (is_due e.maker k.end.journal k.later e.journal (at_moment r (moment_of k.pause) e.maker.id) k.pause.timed (all.fed e i).made n goes)
 
-  -- what holds at each end holds of each maker
-  each_maker : (P : Maker → Type 0) → ((e : End) → In e ends → P e.maker) → (m : Maker) → IsIn m r.makers → P m
-  each_maker P h m i =
-      let k = end_of m ends (subst (IsIn m) all.makers i) in
-      subst P k.same (h k.end k.there)
+    free_by : free_from (is_named_by r (map moment_of (p ∷ rest)) true e.maker.id) 0 e.journal ≤ e.lined
+    free_by =
+        let over = is_named_by r (map moment_of (p ∷ rest)) true e.maker.id in
+        let k =
+        free_on over p rest a e ia path
+        (λ q c h j same timed.
+        named_by r (p ∷ rest) true e.maker (length c.journal) sane t.quiet
+        (record { pause = q; there = h; is_timed = timed; end = c; inside = j; same = same; place = refl })) in
+        let few = free_few over 0 a.journal in
+        let old = (t.ungiven a ia).1 in
+        omega (arith, k, few, old)
 
-  in_makers_of : (e : End) → In e ends → IsIn e.maker r.makers
-  in_makers_of e h = subst (IsIn e.maker) (sym all.makers) (is_in e ends h)
+  nudged_at : (pauses : List Pause) → AreTimely r pauses ends → (e : End) → In e ends → AreNudged r (map moment_of pauses) e.maker (trace_at e)
+  nudged_at [] t e i k h = absurd ((t.ungiven e i).0 (get_in e.journal k Entry.Nudged h))
+  nudged_at (p ∷ rest) t e i k h = let way = path_of p rest ends e t.followed i in nudged_by p rest t e i way.0 way.1 way.2 k h
 
-  -- ---- journals
+  due_at_end : (pauses : List Pause) → AreTimely r pauses ends → (x : Moment) → In x (but_last (map moment_of pauses)) → (e : End) → In e ends
+      → IsDue r x e.maker (trace_at e)
+  due_at_end [] t x h e i = absurd h
+  due_at_end (p ∷ rest) t x h e i = let way = path_of p rest ends e t.followed i in due_by_then p rest t e i way.0 way.1 way.2 x h
 
-  logs_at : (e : End) → In e ends → IsTrueLog e.maker (journal_in run e.maker)
-  logs_at e h = let f = all.fed e h in subst (IsTrueLog e.maker) (sym (journal_is e h)) (f.made, f.sound)
-
-  -- ---- copies
-
-  put_at : (p : Test) (e s : End) → In e ends → In s ends
-      → put_by p e.maker.id run s.maker ≡ pending_counted p (from s.maker.id (e.took ++ e.left))
-  put_at p e s h k =
-      ap (λ j. parcels_counted p e.maker.id s.maker.id (parcels_of s.maker j)) (journal_is s k)
-      ∙ sym (copies_counted p e.maker.id s.maker.id (parcels_of s.maker s.journal))
-      ∙ ap (pending_counted p) (sym ((all.fed e h).links s k) ∙ sym (from_both s.maker.id e.took e.left))
-
-  abbrev WaysAt : Maker → Type 0
-  WaysAt m = (p : Test) → heard_counted p (journal_in run m) + declined_counted p (declined_in run m) + pending_counted p (waiting_in run m)
-      ≡ pending_counted p (of m.id r.requests) + sum_by (put_by p m.id run) r.makers
-
-  ways_at : (e : End) → In e ends → WaysAt e.maker
-  ways_at e h p =
-      let f = all.fed e h in
-      let l = e.took ++ e.left in
-      let all_parts = parted p r.makers l sane.apart f.known in
-      let sums : sum_by (put_by p e.maker.id run) r.makers ≡ sum_by (λ (n : Maker). pending_counted p (from n.id l)) r.makers =
-      same_sums (λ (n : Maker). pending_counted p (from n.id l)) (put_by p e.maker.id run) r.makers
-      (each_maker (λ n. put_by p e.maker.id run n ≡ pending_counted p (from n.id l)) (λ s k. put_at p e s h k)) in
-      let wanted : pending_counted p (of e.maker.id r.requests) ≡ pending_counted p (asked l) =
-      ap (pending_counted p) (sym f.requests ∙ sym (asked_both e.took e.left)) in
-      let whole = counted_both p e.took e.left in
-      let rest = counted_both p e.left (copies_of e.unheard) in
-      let spelled = copies_counted_of p e.unheard in
-      let read = all_read p e.maker e.took in
-      let heard = f.heard p in
-      let j : heard_counted p (journal_in run e.maker) ≡ heard_counted p e.journal = ap (heard_counted p) (journal_is e h) in
-      let d : declined_counted p (declined_in run e.maker) ≡ declined_counted p (refused e.maker e.took) = ap (declined_counted p) (declined_is e h) in
-      let w : pending_counted p (waiting_in run e.maker) ≡ pending_counted p (e.left ++ copies_of e.unheard) = ap (pending_counted p) (waiting_is e h) in
-      omega (arith, all_parts, sums, wanted, whole, rest, spelled, read, heard, j, d, w)
-
-  -- ---- what was refused
-
-  put_of : (e : End) → In e ends → (c : Pending) → In c e.took → IsPut r run e.maker c
-  put_of e h c i = go c.origin refl ((all.fed e h).known c (in_append_left c e.took e.left i))
-    where
-      by_client : is_asked c.origin ≡ true → (x : Message) × (reads e.maker c.load ≡ Ok x)
-      by_client q =
-          let f = all.fed e h in
-          let there : In c (of e.maker.id r.requests) = subst (In c) f.requests (in_append_left c (asked e.took) (asked e.left) (in_asked c e.took q i)) in
-          let known : IsRequest e.maker c = sane.requests e.maker c (subst (In e.maker) (sym all.makers) (maker_in e ends h)) there in
-          (known.message, known.is_read)
-
-      by_sender : (s : End) → In s ends → is_from s.maker.id c.origin ≡ true → IsPut r run e.maker c
-      by_sender s k q =
-          let f = all.fed e h in
-          let ps = parcels_of s.maker s.journal in
-          let there : In c (of e.maker.id (map (copy_of s.maker.id) ps)) =
-          subst (In c) (f.links s k) (in_append_left c (from s.maker.id e.took) (from s.maker.id e.left) (in_from s.maker.id c e.took q i)) in
-          let copy = copies_from e.maker.id s.maker.id ps c there in
-          let receiver : e.maker.id ≡ copy.parcel.to = same_is e.maker.id copy.parcel.to copy.receiver in
-          subst (λ (x : Pending). IsPut r run e.maker x) copy.same
-          (record {
-            sender = s.maker;
-            is_in = in_makers_of s k;
-            id_is = refl;
-            parcel = copy.parcel;
-            is_there =
-                ap (λ j. parcel_at e.maker.id copy.parcel.number (parcels_of s.maker j)) (journal_is s k)
-                ∙ ap (λ t. parcel_at t copy.parcel.number ps) receiver ∙ named s.maker s.journal copy.parcel copy.is_in;
-            time_is = refl;
-            load_is = refl;
-          })
-
-      go : (o : Origin) → c.origin ≡ o → IsKnown r.makers o → IsPut r run e.maker c
-      go (Origin.Client k) q known =
-          subst (λ (o : Origin). IsPutBy r.makers run.done e.maker c.number c.load o) (sym q) (by_client (ap is_asked q))
-      go (Origin.Replica f time) q known =
-          each_maker (λ n. n.id ≡ f → IsPut r run e.maker c)
-          (λ s k g. by_sender s k (ap (is_from s.maker.id) q ∙ ap (is_same s.maker.id) (sym g) ∙ same_self s.maker.id)) known.0
-          (in_makers known.0 r.makers known.1) known.2
-
-  abbrev TurnedAt : Maker → Type 0
-  TurnedAt m = (d : Declined) → In d (declined_in run m) → IsPut r run m d.copy × (reads m d.copy.load ≡ Err d.refusal)
-
-  turned_at : (e : End) → In e ends → TurnedAt e.maker
-  turned_at e h d i =
-      let k = refused_of e.maker e.took d (subst (In d) (declined_is e h) i) in
-      (put_of e h d.copy k.taken, k.cause)
+  free_at : (pauses : List Pause) → AreTimely r pauses ends → (e : End) → In e ends
+      → free_from (is_named_by r (map moment_of pauses) true e.maker.id) 0 e.journal ≤ e.lined
+  free_at [] t e i =
+      let few = free_few (is_named_by r [] true e.maker.id) 0 e.journal in
+      let old = (t.ungiven e i).1 in
+      omega (arith, few, old)
+  free_at (p ∷ rest) t e i = let way = path_of p rest ends e t.followed i in free_by p rest t e i way.0 way.1 way.2
 
   -- ---- all of it
 
-  fair : IsFair r run
-  fair = record {
-    logs = each_maker (λ m. IsTrueLog m (journal_in run m)) logs_at;
-    ways = each_maker WaysAt ways_at;
-    turned = λ m d i h. each_maker TurnedAt turned_at m i d h;
-  }
+  module _ (pauses : List Pause) (left : ℕ) (t : AreTimely r pauses ends) (patient : IsPatient r pauses left) where
+    abbrev moments : List Moment
+    moments = map moment_of pauses
 
-  trace_is : (e : End) → In e ends → trace_in run e.maker ≡ trace_at e
-  trace_is e h =
-      ap (λ j. trace_of e.maker j (flat_map turned_of (declined_in run e.maker))) (journal_is e h)
-      ∙ ap (λ l. trace_of e.maker e.journal (flat_map turned_of l)) (declined_is e h)
+    abbrev run : Run
+    run = run_at ends moments left
 
-  traces_are : (l : List End) → ((e : End) → In e l → In e ends) → map (trace_in run) (makers_at l) ≡ map trace_at l
-  traces_are [] h = refl
-  traces_are (e ∷ l) h =
-      ap (λ t. t ∷ map (trace_in run) (makers_at l)) (trace_is e (h e (inl refl))) ∙ ap (λ ts. trace_at e ∷ ts) (traces_are l (λ x k. h x (inr k)))
+    abbrev with_traces : List Trace → Transcript
+    with_traces l = record { script = r.script; traces = l; moments = moments; timeouts_left = left }
 
-  abbrev with_traces : List Trace → Transcript
-  with_traces traces = record { script = r.script; traces = traces; timeouts_left = 0 }
+    transcript_is : transcript r run ≡ transcript_at r ends pauses left
+    transcript_is = ap with_traces (traces_at r ends moments left sane all)
 
-  transcript_is : transcript r run ≡ transcript_at r ends
-  transcript_is =
-      ap (λ ms. with_traces (map (trace_in run) ms)) all.makers ∙ ap with_traces (traces_are ends (λ e h. h))
+    moment_at : (x : Moment) → In x moments → IsMoment r traces x
+    moment_at x h =
+        let k = of_map moment_of x pauses h in
+        subst (IsMoment r traces) k.same (is_moment r k.from sane (t.quiet k.from k.is_in) ends all (each_on k.from pauses ends t.followed k.is_in))
 
-  pub lawful_ends : Lawful r (transcript_at r ends)
-  lawful_ends = subst (Lawful r) transcript_is (lawful_of r run sane.apart fair)
+    timely : ending.AreTimely r (transcript_at r ends pauses left)
+    timely = record {
+      moments = moment_at;
+      rising = rising r pauses ends sane t.quiet t.followed;
+      nudged = every (AreNudged r moments) (nudged_at pauses t);
+      due = λ x h. every (IsDue r x) (due_at_end pauses t x h);
+      free =
+          every (AreFree r moments (entries_of (transcript_at r ends pauses left)))
+          (λ e i.
+          let few = free_at pauses t e i in
+          let lined = t.lines e i in
+          let same : lines_by r (entries_of (transcript_at r ends pauses left)) e.maker.id ≡ lines_by r (all_entries ends) e.maker.id =
+          ap (λ (n : ℕ). lines_by r n e.maker.id) (sum_ends (λ (x : Trace). length x.journal) ends) in
+          omega (arith, few, lined, same));
+      patience = (let same = timed_moments pauses in let used = patient in omega (arith, same, used));
+    }
 
-  waits_none : (e : End) → In e ends → IsQuiet e → waiting_in run e.maker ≡ []
-  waits_none e h q = waiting_is e h ∙ ap (λ l. l ++ copies_of e.unheard) q.none_left ∙ ap copies_of q.none_unheard
+    pub lawful_ends : Lawful r (transcript_at r ends pauses left)
+    lawful_ends =
+        subst (Lawful r) transcript_is
+        (lawful_of r run moments sane.apart (fair r ends moments left sane all) (subst (ending.AreTimely r) (sym transcript_is) timely))
 
-  stays : (e : End) → In e ends → IsQuiet e → (mover : Mover) → moves e.maker (journal_in run e.maker) mover ≡ false
-  stays e h q mover = ap (λ j. moves e.maker j mover) (journal_is e h) ∙ q.still mover
+  patience_is_used : (pauses : List Pause) → AreTimely r pauses ends → HaveMoved pauses → count_by is_timed pauses ≤ sum_by timed_out_in traces
+  patience_is_used [] t h = omega arith
+  patience_is_used (p ∷ rest) t h =
+      let k = patience_used p rest ends t.followed h.each h.last in
+      let same : sum_by timed_out_in traces ≡ all_timed ends = sum_ends timed_out_in ends in
+      omega (arith, k, same)
 
-  still_at : (e : End) → In e ends → IsQuiet e → IsStill run e.maker
-  still_at e h q = (waits_none e h q, stays e h q Mover.Batch, stays e h q Mover.Emit, stays e h q Mover.Execute, stays e h q Mover.Checkpoint)
+  tried_at : (pauses : List Pause) → AreTimely r pauses ends → IsPatient r pauses 0 → AreTried pauses ends
+      → (r.patience ≤ sum_by timed_out_in traces) ⊎ AreEach (IsIdle Mover.Timeout) r.makers traces
+  tried_at pauses t patient (inl h) = let k = patience_is_used pauses t h in let all_of_it = patient in inl (omega (arith, k, all_of_it))
+  tried_at pauses t patient (inr calm) = inr (every (IsIdle Mover.Timeout) calm)
 
-  pub settled_ends : ((e : End) → In e ends → IsQuiet e) → Settled r (transcript_at r ends)
-  settled_ends q =
-      subst (Settled r) transcript_is
-      (settled_of r run sane.apart fair (each_maker (IsStill run) (λ e h. still_at e h (q e h)))
-      (each_maker (λ m. moves m (journal_in run m) Mover.Nudge ≡ false) (λ e h. stays e h (q e h) Mover.Nudge)))
+  pub settled_ends : (pauses : List Pause) → AreTimely r pauses ends → IsPatient r pauses 0 → AreTried pauses ends
+      → ((e : End) → In e ends → IsQuiet e) → ((e : End) → In e ends → IsCalm Mover.Nudge e)
+      → Settled r (transcript_at r ends pauses 0)
+  settled_ends pauses t patient tried quiet calm =
+      let moments = map moment_of pauses in
+      let same = traces_at r ends moments 0 sane all in
+      subst (Settled r) (transcript_is pauses 0 t patient)
+      (settled_of r (run_at ends moments 0) sane.apart (fair r ends moments 0 sane all) (still r ends moments 0 sane all quiet)
+      (unmoved r ends moments 0 sane all calm) refl
+      (subst (λ (l : List Trace). (r.patience ≤ sum_by timed_out_in l) ⊎ AreEach (IsIdle Mover.Timeout) r.makers l) (sym same)
+      (tried_at pauses t patient tried)))
 
 pub lawful : LawfulLaw
-lawful r ends sane all = lawful_ends r ends sane all
+lawful r ends pauses left sane all timely patient = lawful_ends r ends sane all pauses left timely patient
 
 pub settled : SettledLaw
-settled r ends sane all q = settled_ends r ends sane all q
+settled r ends pauses sane all timely patient tried quiet calm = settled_ends r ends sane all pauses timely patient tried quiet calm

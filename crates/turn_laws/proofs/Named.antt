@@ -7,7 +7,7 @@ use Rattle.run_words.specs.Journal.{Maker, Walk, walk, added, after_entry, parce
 use Rattle.run_words.specs.Lawful.{parcel_at}
 use Rattle.run_words.specs.declared.logs.Entry.{Entry}
 use Rattle.run_words.specs.declared.logs.Parcel.{Parcel}
-use Rattle.run_words.proofs.Naming.{at_append, added_named}
+use Rattle.run_words.proofs.Twisting.{at_append, added_named}
 
 abbrev AreNamed : List Parcel → Type 0
 AreNamed ps = (q : Parcel) → In q ps → parcel_at q.to q.number ps ≡ Some q
@@ -25,4 +25,4 @@ named_on m w (e ∷ rest) h = named_on m (after_entry m w e) rest grown
 
 pub named : (m : Maker) (journal : List Entry) → AreNamed (parcels_of m journal)
 unfolding walk
-named m journal = named_on m (record { clock = 0; parcels = []; signed = [] }) journal (λ q h. absurd h)
+named m journal = named_on m (record { clock = 0; parcels = []; shares = []; signed = [] }) journal (λ q h. absurd h)

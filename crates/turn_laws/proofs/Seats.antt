@@ -8,7 +8,7 @@ use Rattle.turn_lock.specs.Numbers.{has, least}
 use Rattle.turn_lock.specs.Histories.{IsStartOf, of_numbers, entries, with_entry, with_mine}
 use Rattle.turn_lock.specs.Views.{own}
 use Rattle.turn_lock.proofs.Histories.{Out, follows_out, of_mine, entries_more, same_length}
-use Rattle.run_words.specs.Journal.{Maker, Walk, walk, added, parcels_of, moves}
+use Rattle.run_words.specs.Journal.{Maker, Walk, walk, copies, added, parcels_of, moves}
 use Rattle.run_words.specs.Lawful.{Test, heard_once, heard_counted}
 use Rattle.run_words.specs.Acts as acts
 use Rattle.run_words.specs.Acts.{would, made_by, act_of, told_entry, told_parcels, Does}
@@ -92,6 +92,7 @@ kind_made m journal Act.Nudge = refl
 kind_made m journal Act.Emit = refl
 kind_made m journal Act.Execute = refl
 kind_made m journal Act.Checkpoint = refl
+kind_made m journal Act.Timeout = refl
 
 kinds_more : (k : Kind) (log : List (ℕ × Entry)) (n : ℕ) (e : Option Entry) → AreOf k log → ((x : Entry) → e ≡ Some x → kind x ≡ k)
     → AreOf k (with_mine log n e)
@@ -152,6 +153,8 @@ heard_one p ns n Entry.Executed log true h later = let z : heard_once p Entry.Ex
 heard_one p ns n Entry.Executed log false h later = let z : heard_once p Entry.Executed ≡ 0 = refl in omega (arith, later, z)
 heard_one p ns n Entry.Marked log true h later = let z : heard_once p Entry.Marked ≡ 0 = refl in omega (arith, later, z)
 heard_one p ns n Entry.Marked log false h later = let z : heard_once p Entry.Marked ≡ 0 = refl in omega (arith, later, z)
+heard_one p ns n Entry.TimedOut log true h later = let z : heard_once p Entry.TimedOut ≡ 0 = refl in omega (arith, later, z)
+heard_one p ns n Entry.TimedOut log false h later = let z : heard_once p Entry.TimedOut ≡ 0 = refl in omega (arith, later, z)
 
 pub heard_all : HeardLaw
 heard_all p ns [] h = refl
@@ -212,7 +215,7 @@ emits made first v w answer h numbers mine =
     ∙ ap (λ l. put_of m ns v.seen ++ l) (sym (told_put m (entries h.0) Act.Emit answer.told h.1 h.3.acted))
 
 added_by : (m : Maker) (w : Walk) (e : Entry) (b : Bool) → (kind e ≡ Kind.Sending → b ≡ true) → added m w e ≡ cond b (added m w e) []
-unfolding added
+unfolding added copies
 added_by m w e true h = refl
 added_by m w (Entry.Sent item) false h = let z = h refl in absurd cc
 added_by m w (Entry.Heard origin x) false h = refl
@@ -220,6 +223,7 @@ added_by m w Entry.Proposed false h = refl
 added_by m w Entry.Nudged false h = refl
 added_by m w Entry.Executed false h = refl
 added_by m w Entry.Marked false h = refl
+added_by m w Entry.TimedOut false h = refl
 
 put_on : (m : Maker) (ns : List Bool) (earlier : List Entry) (log : List (ℕ × Entry)) → AreBy Kind.Sending ns log
     → parcels_of m (earlier ++ entries log) ≡ parcels_of m earlier ++ put_from m ns earlier log
@@ -255,6 +259,7 @@ would_moves m journal Mover.Nudge = refl
 would_moves m journal Mover.Emit = refl
 would_moves m journal Mover.Execute = refl
 would_moves m journal Mover.Checkpoint = refl
+would_moves m journal Mover.Timeout = refl
 
 still_by : (m : Maker) (journal : List Entry) (mover : Mover) (told : Told) (now : List Entry) → Does m journal (act_of mover) told now
     → told_entry told ≡ false

@@ -1,16 +1,17 @@
 -- A run put together from what each replica left behind.
-use Rattle.std.proofs.Common.{◌≡◌, false, cond, List, [], ◌∷◌, ◌++◌, map, refl, sym, ap, subst, ◌∙◌, inl, inr, append-nil}
+use Rattle.std.proofs.Common.{◌≡◌, ℕ, false, cond, List, [], ◌∷◌, ◌++◌, map, refl, sym, ap, subst, ◌∙◌, inl, inr, append-nil}
 use Rattle.fab_base.specs.declared.ids.ReplicaId.{ReplicaId}
 use Rattle.fab_rules.specs.Lists.{In}
 use Rattle.run_words.specs.Keyed.{is_same, of}
 use Rattle.run_words.specs.Journal.{Maker}
 use Rattle.run_words.specs.Runs.{Run, Phase}
 use Rattle.run_words.specs.Lawful.{IsApart, AreApart}
+use Rattle.run_words.specs.declared.logs.Moment.{Moment}
 use Rattle.run_words.proofs.Keys.{same_self, other_turned, of-append}
 use Rattle.run_words.proofs.Counts.{IsIn, apart_from}
 use Rattle.turn_laws.specs.Copies.{refused}
 use Rattle.turn_laws.specs.Ends.{End}
-use Rattle.turn_laws.proofs.Feeding.{copies_of}
+use Rattle.turn_laws.proofs.Feeding.{spelled_of}
 
 abbrev pub maker_at : End → Maker
 maker_at e = e.maker
@@ -22,12 +23,16 @@ abbrev pub tagged : {X : Type 0} → (End → List X) → List End → List (Rep
 tagged f [] = []
 tagged {X} f (e ∷ rest) = map (λ (x : X). (e.maker.id, x)) (f e) ++ tagged f rest
 
-abbrev pub run_at : List End → Run
-run_at ends = record {
+abbrev pub run_at : List End → List Moment → ℕ → Run
+run_at ends moments left = record {
   done = tagged (λ e. e.journal) ends;
-  way = tagged (λ e. e.left ++ copies_of e.unheard) ends;
+  way = tagged (λ e. e.left ++ spelled_of e.unheard) ends;
   turned = tagged (λ e. refused e.maker e.took) ends;
   picks = 0;
+  given = [];
+  lines = [];
+  left = left;
+  moments = moments;
   phase = Phase.Ended false;
 }
 

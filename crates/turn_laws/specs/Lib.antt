@@ -4,3 +4,6 @@ pub mod Seats
 pub mod Copies
 pub mod Takings
 pub mod Ends
+pub mod Pauses
+pub mod Fleets
+pub mod Examples

@@ -18,6 +18,7 @@ kind Entry.Nudged = Kind.Doing
 kind (Entry.Sent item) = Kind.Sending
 kind Entry.Executed = Kind.Doing
 kind Entry.Marked = Kind.Doing
+kind Entry.TimedOut = Kind.Doing
 
 abbrev pub kind_of : Act → Kind
 kind_of (Act.Hear origin heard) = Kind.Hearing
@@ -26,6 +27,7 @@ kind_of Act.Nudge = Kind.Doing
 kind_of Act.Emit = Kind.Sending
 kind_of Act.Execute = Kind.Doing
 kind_of Act.Checkpoint = Kind.Doing
+kind_of Act.Timeout = Kind.Doing
 
 -- each entry is of this kind
 abbrev pub AreOf : Kind → List (ℕ × Entry) → Type 0

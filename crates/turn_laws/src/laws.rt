@@ -2,7 +2,8 @@
 
 ghost use Rattle.turn_laws.specs.Seats.{KindLaw, HearLaw, EmitLaw, HeardLaw, PutLaw, StillLaw};
 ghost use Rattle.turn_laws.specs.Takings.{TakenLaw, HeardEndLaw};
-ghost use Rattle.turn_laws.specs.Ends.{LawfulLaw, SettledLaw};
+ghost use Rattle.turn_laws.specs.Fleets.{LawfulLaw, SettledLaw};
+ghost use Rattle.turn_laws.specs.Examples.{MetLaw};
 
 use run_words::Party;
 
@@ -25,9 +26,14 @@ pub fn taken_law()
 {}
 
 /// Whatever was fed to the replicas of a fleet, in whatever order its threads came: where each journal is one that the replica's machine makes,
-/// and what input workers took is a beginning of what was put, the transcript is lawful (`lawful`). Where nothing is left and nothing moves, it
-/// is settled (`settled`).
+/// what input workers took is a beginning of what was put, and Nudges and Timeouts were given at quiet moments alone, the transcript is lawful
+/// (`lawful`). Where nothing is left, nothing moves and patience was used, it is settled (`settled`).
 pub fn fleet_law()
     ensures lawful { LawfulLaw }
     ensures settled { SettledLaw }
+{}
+
+/// All that `fleet_law` asks can be met: by a replica alone, of which nothing is asked, with one moment that ends in timeouts and one that doesn't.
+pub fn fleet_example()
+    ensures { MetLaw }
 {}

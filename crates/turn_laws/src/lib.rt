@@ -8,20 +8,23 @@
 //!   end, has nothing more to do.
 //! - [`taken_law`]: what a consumer took is, item for item, what it took of each producer. So what a replica heard is what its input workers read,
 //!   but for what is still held between them.
-//! - [`fleet_law`]: where each journal is one that its replica's machine makes, and what was taken of each sender is a beginning of what it put, the
-//!   transcript is lawful. Where beside that nothing is left and nothing moves, it is settled.
+//! - [`fleet_law`]: where each journal is one that its replica's machine makes, what was taken of each sender is a beginning of what it put, and
+//!   Nudges and Timeouts were given at quiet moments alone, the transcript is lawful. Where beside that nothing is left, nothing moves and patience was
+//!   used, it is settled. That a quiet moment is one of the transcript is had by counts too: it is the same question of what there was by then.
+//! - [`fleet_example`]: what `fleet_law` asks can be met.
 //!
 //! They are cited by proofs, as the clause of a function that nobody needs to call:
 //!
 //! ```text
 //! emits made first before after answer acted same_numbers mine : put_of m after.numbers after.seen ≡ put_of m before.numbers before.seen ++ told_parcels answer.told
-//! lawful rules ends sane fed : Lawful rules (transcript_at rules ends)
+//! lawful rules ends pauses left sane fed timely patient : Lawful rules (transcript_at rules ends pauses left)
 //! ```
 //!
 //! The definitions: `Workers` has the kinds of entries, `Doings` what was heard and put under some seat numbers, `Seats` their laws; `Takings` is of the
-//! queue's consumer; `Copies` is what a receiver makes of copies, and `Ends` what each replica leaves behind, with the laws of fleets.
+//! queue's consumer; `Copies` is what a receiver makes of copies, `Ends` what each replica leaves behind, `Pauses` the quiet moments on the way, and
+//! `Fleets` the laws of both; `Examples` has the least fleet.
 #![tactic(auto)]
 
 mod laws;
 
-pub use laws::{fleet_law, seats_law, taken_law};
+pub use laws::{fleet_example, fleet_law, seats_law, taken_law};

@@ -13,7 +13,7 @@ is_still-requires-clause-replayable c =
 
 pub loop-trace-preserved : goal.loop-trace-preserved
 loop-trace-preserved c =
-    let still = is_still c.args.script.now in
+    let still = is_still c.args.script.now c.args.timeouts in
     let trace = c.trace-item.result in
     list_all_more still c.args.traces.now c.loop-trace.trace-index trace c.loop-trace-test.true
     ∙ ap (λ b. b && still (get_or c.args.traces.now c.loop-trace.trace-index trace)) c.loop-trace.invariant
@@ -21,10 +21,10 @@ loop-trace-preserved c =
 
 pub returns-then-not-branch : goal.returns-then-not-branch
 returns-then-not-branch c =
-    let still = is_still c.args.script.now in
+    let still = is_still c.args.script.now c.args.timeouts in
     sym (list_all_at still c.args.traces.now c.loop-trace.trace-index c.trace-item.result c.loop-trace-test.true
     (ap still (sym c.trace-item.is) ∙ sym c.in_ok-is_still.ensures ∙ c.if-not-branch.true))
 
 pub returns : goal.returns
 returns c =
-    sym c.loop-trace.invariant ∙ ap (list_all (is_still c.args.script.now)) (take_all c.loop-trace.trace-index c.args.traces.now c.loop-trace-test.false)
+    sym c.loop-trace.invariant ∙ ap (list_all (is_still c.args.script.now c.args.timeouts)) (take_all c.loop-trace.trace-index c.args.traces.now c.loop-trace-test.false)

@@ -10,4 +10,5 @@ loop-entry-preserved c =
     c.entry-item.is c.loop-entry.invariant c.in_ok-step.ensures
 
 pub returns : goal.returns
-returns c = λ m. walked_all m c.args.journal.now c.loop-entry.entry-index c.loop-entry.walk c.loop-entry-test.false c.loop-entry.invariant
+returns c = λ m plain.
+    walked_all m c.args.journal.now c.loop-entry.entry-index c.loop-entry.walk c.loop-entry-test.false c.loop-entry.invariant plain

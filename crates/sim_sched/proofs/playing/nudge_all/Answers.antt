@@ -7,13 +7,13 @@ use Rattle.sim_sched.proofs.playing.nudge_all.Goals.{then-branch, else-branch}
 
 pub returns-then-entries-turns-clause-nudged : goal.returns-then-entries-turns-clause-nudged
 returns-then-entries-turns-clause-nudged g c =
-    λ r key gen u i.
+    λ r key at gen moments u i.
     let f = seen g.P.Party.made g.P.Party.journal g.P.Party.shut in
     let n : length (map f c.loop-place.seats) ≡ length c.loop-place.seats = long_map f c.loop-place.seats in
     let same = c.loop-place.auto.seats in
-    nudge_spent r key (map f c.loop-place.seats) gen c.loop-place.entries c.args.turns c.loop-place.place c.loop-place.moved u (omega arith)
-    (omega arith)
-    (c.loop-place.invariant.nudges r key gen u i)
+    nudge_spent r key (map f c.loop-place.seats) gen c.loop-place.entries c.args.turns c.loop-place.place at moments c.loop-place.moved u
+    (omega arith) (omega arith)
+    (c.loop-place.invariant.nudges r key at gen moments u i)
 
 pub loop-place-preserved : goal.loop-place-preserved
 loop-place-preserved g c =
@@ -37,9 +37,9 @@ loop-place-preserved g c =
 
 pub returns-clause-nudged : goal.returns-clause-nudged
 returns-clause-nudged g c =
-    λ r key gen u i.
+    λ r key at gen moments u i.
     let f = seen g.P.Party.made g.P.Party.journal g.P.Party.shut in
     let n : length (map f c.loop-place.seats) ≡ length c.loop-place.seats = long_map f c.loop-place.seats in
     let same = c.loop-place.auto.seats in
-    nudge_whole r key (map f c.loop-place.seats) gen c.loop-place.entries c.loop-place.place c.loop-place.moved (omega arith)
-    (c.loop-place.invariant.nudges r key gen u i)
+    nudge_whole r key (map f c.loop-place.seats) gen c.loop-place.entries c.loop-place.place at moments c.loop-place.moved (omega arith)
+    (c.loop-place.invariant.nudges r key at gen moments u i)

@@ -1,7 +1,7 @@
 use Rattle.std.proofs.Common.{subst, map, Bool, Option}
 use Rattle.sim_sched.specs.Seats.{seen}
 use Rattle.sim_sched.specs.Simulating.{Picked}
-use Rattle.sim_sched.proofs.QuietMoments.{picks_entered, picks_refused, picks_none}
+use Rattle.sim_sched.proofs.Turns.{picks_entered, picks_refused, picks_none}
 use Rattle.sim_sched.proofs.playing.pick_entry.Goals as goal
 
 pub returns-then-grew-clause-entered : goal.returns-then-grew-clause-entered

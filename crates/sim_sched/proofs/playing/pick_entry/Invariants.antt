@@ -1,6 +1,6 @@
 use Rattle.std.proofs.Common.{map}
 use Rattle.sim_sched.specs.Seats.{seen, copies}
-use Rattle.sim_sched.proofs.QuietMoments.{PicksSo}
+use Rattle.sim_sched.proofs.Turns.{PicksSo}
 use Rattle.sim_sched.proofs.playing.pick_entry.Given as goal
 
 abbrev pub invariant-loop-grew : goal.invariant-loop-grew

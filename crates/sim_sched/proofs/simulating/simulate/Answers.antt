@@ -1,5 +1,5 @@
 use Rattle.run_words.specs.Runs.{IsSchedule}
-use Rattle.run_words.proofs.Keeping.{run_law}
+use Rattle.run_words.proofs.Ending.{run_law}
 use Rattle.std.proofs.Common.{◌≡◌, ◌∙◌, ap, sym, subst, map, length, arith, refl}
 use Rattle.run_words.specs.declared.logs.Transcript.{Transcript}
 use Rattle.sim_sched.specs.Seats.{seen, receive, AllOpen}
@@ -21,7 +21,8 @@ returns g c =
     let shut = g.P.Party.shut in
     let f = seen made journal shut in
     let r = rules_of c.args.script (map made c.args.parties.items) c.args.requests.items in
-    let told : Transcript = record { script = c.args.script; traces = c.in_ok-traces.traces; timeouts_left = 0 } in
+    let told : Transcript = record
+    { script = c.args.script; traces = c.in_ok-traces.traces; moments = c.run_seats.new.moments; timeouts_left = 0 } in
     let v = c.deref_mut.ensures.value in
     let m = ap length v in
     let k = c.run_seats.auto.seats in
@@ -30,11 +31,11 @@ returns g c =
     let opened = subst (λ l. AllOpen (map f l)) (sym back) c.in_ok-spent.ensures.open in
     let whole : IsSchedule r told c.in_ok-spent.spent =
     schedule made journal shut c.args.script c.args.parties.items c.args.ids.now c.args.requests.items c.from-turns.result
-    (map (receive c.args.requests.items) (map f c.deref_mut.result.now)) (map f c.run_seats.new.seats) _ c.in_ok-spent.spent
+    (map (receive c.args.requests.items) (map f c.deref_mut.result.now)) (map f c.run_seats.new.seats) _ c.new-moments.result c.run_seats.new.moments c.in_ok-spent.spent
     c.in_ok-traces.traces
     c.requires.named c.requires.apart c.requires.fresh c.from-turns.ensures
     (ap (λ l. map (receive c.args.requests.items) (map f l)) v ∙ ap (map (receive c.args.requests.items)) c.in_ok-seats.ensures)
-    refl c.in_ok-spent.ensures.played
+    refl c.new-moments.ensures c.in_ok-spent.ensures.played
     (c.in_ok-traces.ensures opened ∙ ap (λ l. map seat_trace (map f l)) back)
     in
     record { schedule = whole; lawful = λ sane. run_law r told c.in_ok-spent.spent sane whole }

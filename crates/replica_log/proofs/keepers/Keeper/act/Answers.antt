@@ -1,5 +1,5 @@
 use Rattle.replica_log.proofs.Signing.{core_keeps, told_keeps}
-use Rattle.replica_log.proofs.Acted.{hear_acted, batch_acted, nudge_acted, execute_acted, checkpoint_acted}
+use Rattle.replica_log.proofs.Acted.{hear_acted, batch_acted, nudge_acted, execute_acted, checkpoint_acted, timeout_acted}
 use Rattle.replica_log.proofs.keepers.Keeper.act.Goals as goal
 
 pub returns-in-Hear-clause-acted : goal.returns-in-Hear-clause-acted
@@ -27,6 +27,11 @@ returns-in-Checkpoint-clause-acted g c =
     checkpoint_acted g.S.Signer.limit g.S.Signer.made g.S.Signer.gives c.args.self.now c.advance-in-Checkpoint.new.self c.args.act c.new-in-Checkpoint.result c.advance-in-Checkpoint.result
     c.told-in-Checkpoint.result c.in-Checkpoint.is c.new-in-Checkpoint.ensures c.told-in-Checkpoint.ensures c.advance-in-Checkpoint.ensures.answer c.advance-in-Checkpoint.ensures.moves
 
+pub returns-in-Timeout-clause-acted : goal.returns-in-Timeout-clause-acted
+returns-in-Timeout-clause-acted g c =
+    timeout_acted g.S.Signer.limit g.S.Signer.made g.S.Signer.gives c.args.self.now c.advance-in-Timeout.new.self c.args.act c.new-in-Timeout.result c.advance-in-Timeout.result
+    c.told-in-Timeout.result c.in-Timeout.is c.new-in-Timeout.ensures c.told-in-Timeout.ensures c.advance-in-Timeout.ensures.answer c.advance-in-Timeout.ensures.moves
+
 pub returns-in-Hear-clause-signer : goal.returns-in-Hear-clause-signer
 returns-in-Hear-clause-signer g c = core_keeps c.hear.result c.told.result c.args.self.now.signer c.hear.new.self.signer c.told.ensures c.hear.ensures.signer
 
@@ -45,6 +50,10 @@ returns-in-Execute-clause-signer g c =
 pub returns-in-Checkpoint-clause-signer : goal.returns-in-Checkpoint-clause-signer
 returns-in-Checkpoint-clause-signer g c =
     core_keeps c.advance-in-Checkpoint.result c.told-in-Checkpoint.result c.args.self.now.signer c.advance-in-Checkpoint.new.self.signer c.told-in-Checkpoint.ensures c.advance-in-Checkpoint.ensures.signer
+
+pub returns-in-Timeout-clause-signer : goal.returns-in-Timeout-clause-signer
+returns-in-Timeout-clause-signer g c =
+    core_keeps c.advance-in-Timeout.result c.told-in-Timeout.result c.args.self.now.signer c.advance-in-Timeout.new.self.signer c.told-in-Timeout.ensures c.advance-in-Timeout.ensures.signer
 
 pub returns-in-Emit-clause-signer : goal.returns-in-Emit-clause-signer
 returns-in-Emit-clause-signer g c = told_keeps c.emit.result c.told_anyway.result c.args.self.now.signer c.emit.new.self.signer c.told_anyway.ensures c.emit.ensures.signer

@@ -10,6 +10,6 @@ returns-clause-sealed g c = record {
   journal =
       (rw c.unwrap.ensures at c.push.ensures.items)
       ∙ ap (λ (item : Item). c.args.self.now.journal.items ++ Entry.Sent item ∷ []) c.send_first-item.ensures.item;
-  content_is = rw c.unwrap-2.ensures at c.push-2.ensures.items;
+  contents_are = rw c.unwrap-2.ensures at c.push-2.ensures.items;
   counts = c.send-parcels.ensures.counts;
 }

@@ -7,7 +7,7 @@ pub returns-in-Core : goal.returns-in-Core
 returns-in-Core g c =
     let h = given _ _ _ _ c.args.mover _ (Told.Core c.in-Core.answer) _ _ c.args.self.now.way.items c.args.self.now.refused c.act_of.ensures
     c.in-Core.ensures.made c.requires c.in-Core.ensures.open.1 c.in-Core.ensures.acted in
-    (h.0, c.new.ensures ∙ h.1, c.makes_entry.ensures ∙ h.2)
+    (h.0, c.new.ensures ∙ h.1, c.makes_entry-entered.ensures ∙ h.2)
 
 pub returns-in-Out : goal.returns-in-Out
 returns-in-Out g c = given _ _ _ _ c.args.mover _ (Told.Out c.in-Out.parcels) _ _ c.args.self.now.way.items c.args.self.now.refused c.act_of.ensures c.in-Out.ensures.made c.requires c.in-Out.ensures.open.1 c.in-Out.ensures.acted

@@ -1,5 +1,0 @@
-use Rattle.sha_lanes.proofs.DigestLemmas.{lane_of}
-use Rattle.sha_lanes.proofs.hashing.row.Goals as goal
-
-pub returns : goal.returns
-returns c = lane_of c.args.v.now c.args.k c.told-v
