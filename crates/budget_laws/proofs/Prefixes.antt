@@ -33,7 +33,7 @@ use Rattle.run_words.specs.declared.logs.Transcript.{Transcript}
 use Rattle.run_words.proofs.Counts.{IsIn, journal_other}
 use Rattle.run_words.proofs.Keeping.{IsTrueLog, after_well}
 use Rattle.run_words.proofs.Ending.{told_by, lawful_after}
-use Rattle.run_worlds.proofs.Untroubled.{none_faulty, fine_timeouts}
+use Rattle.run_worlds.proofs.Untroubled.{none_faulty}
 use Rattle.fault_script.specs.declared.twists.Fault.{Fault}
 use Rattle.std.specs.Option.{is_some}
 use Rattle.run_words.proofs.Keys.{of_more, same_is, same_self}
@@ -63,8 +63,8 @@ at_step script n = told_by (script_rules script) (after (script_rules script) n)
 
 pub run_of : (script : Script) (n : ℕ) → keeps_limits script ≡ true → IsRunOf script (at_step script n)
 run_of script n limits =
-    let s = sane script limits (fine_timeouts script) in
-    record { limits = limits; timeouts = fine_timeouts script; lawful = lawful_after (script_rules script) n s }
+    let s = sane script limits in
+    record { limits = limits; lawful = lawful_after (script_rules script) n s }
 
 -- ---- a step adds one entry at most to a journal
 
@@ -279,7 +279,7 @@ module _ (script : Script) (limits : keeps_limits script ≡ true) (one : length
   listed = is_listed script (member 0) (known 0 some)
 
   logs : (n : ℕ) → IsTrueLog maker (journal_at n)
-  logs n = (after_well (script_rules script) n (sane script limits (fine_timeouts script))).fair.logs maker (made_of script (replicas_of script) (member 0) listed)
+  logs n = (after_well (script_rules script) n (sane script limits)).fair.logs maker (made_of script (replicas_of script) (member 0) listed)
 
   -- all that the primary did is plain
   pub plain_journal : (n : ℕ) → ArePlainEntries (journal_in (after (script_rules script) n) (maker_of script (member 0)))

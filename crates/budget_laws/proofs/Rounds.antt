@@ -40,7 +40,6 @@ use Rattle.run_words.proofs.Quieting.{heard_of, sent_of}
 use Rattle.run_words.proofs.Replays.{fresh_is}
 use Rattle.script_keys.specs.Keys.{leaves_of, replicas_of, height_of}
 use Rattle.script_keys.proofs.Wishes.{asked_in}
-use Rattle.run_worlds.proofs.Untroubled.{fine_timeouts}
 use Rattle.run_worlds.specs.Scripts.{roster_of, maker_of, makers_of, script_rules}
 use Rattle.run_worlds.specs.Worlds.{world_of}
 use Rattle.run_worlds.specs.Sights.{first_evidence}
@@ -92,10 +91,11 @@ few_batches (suc m) b l q (inr h) few some =
 
 -- ---- the figures of a script
 
-settings : (script : Script) → keeps_limits script ≡ true → are_settings script.batch script.window script.interval script.seed script.turns script.height ≡ true
+settings : (script : Script) → keeps_limits script ≡ true → are_settings script.batch script.window script.interval script.seed script.turns script.patience script.height ≡ true
 settings script limits =
-    and_right (are_wishes (length script.homes) script.requests) _
-    (and_right (are_homes (length script.sizes) script.homes) _ (and_right (are_sizes script.sizes) _ limits))
+    and_right (are_timeouts script.sizes script.timeouts) _
+    (and_right (are_wishes (length script.homes) script.requests) _
+    (and_right (are_homes (length script.sizes) script.homes) _ (and_right (are_sizes script.sizes) _ limits)))
 
 some_batch : (script : Script) → keeps_limits script ≡ true → 1 ≤ script.batch
 some_batch script limits = at_most 1 script.batch (and_left (nat_le 1 script.batch) _ (and_left (is_within 1 MOST_REQUESTS script.batch) _ (settings script limits)))
@@ -219,7 +219,7 @@ module _ (script : Script) (limits : keeps_limits script ≡ true) (one : length
       ∙ ap (λ d. proposals_said (full_of (member 0) (state primary (journal n)) d)) (diary_at script (after rules n) (replicas_of script) (member 0) listed)
 
   well : (n : ℕ) → IsWell (script_rules script) (after (script_rules script) n)
-  well n = after_well rules n (sane script limits (fine_timeouts script))
+  well n = after_well rules n (sane script limits)
 
   same_in : (m : Maker) (makers : List Maker) → In m makers → IsIn m makers
   same_in m [] h = h
@@ -234,7 +234,7 @@ module _ (script : Script) (limits : keeps_limits script ≡ true) (one : length
   stepped n =
       let first = first_of_all script some in
       one_step (AreStill rules (after rules n)) primary (journal n) (journal (suc n)) (replays n) (replays (suc n)) (plain_journal script limits one some (suc n))
-      (step_of rules primary first.others first.makers_are (sane script limits (fine_timeouts script)) n)
+      (step_of rules primary first.others first.makers_are (sane script limits) n)
 
   few : (n : ℕ) → NoClash (world_of (at_step script n)) → length (requests_said (full_at (at_step script n) 0)) ≤ length script.requests
   few n none = requests_few (t n) (run n) one some (wastes_nothing n none)
@@ -288,7 +288,7 @@ module _ (script : Script) (limits : keeps_limits script ≡ true) (one : length
             ]
             | inr left ↦ (let quiet : IsStill (at_step script n) =
                 record {
-                  all_heard = heard_of rules (after rules n) (sane script limits (fine_timeouts script)).apart (well n).fair still;
+                  all_heard = heard_of rules (after rules n) (sane script limits).apart (well n).fair still;
                   sent = sent_of rules (after rules n) still;
                   idle = idle_then rules (after rules n) still;
                 } in

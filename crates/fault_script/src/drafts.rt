@@ -89,22 +89,16 @@ impl Draft {
         }
     }
 
-    /// Whether a replica is declared: its cluster and its index.
-    fn is_declared(&self, cluster: u64, index: u64) -> bool
-        ensures { result ≡ is_declared self.now.sizes (record { cluster = cluster; index = index }) }
-    {
-        cluster >= 1
-            && cluster <= self.sizes.len() as u64
-            && index < self.sizes[cluster as usize - 1] as u64
-    }
-
     /// A replica that is declared.
     pub(crate) fn declared_replica(&self, word: &[u8]) -> Result<ReplicaId, Why>
         ensures is { result ≡ declared_replica self.now word.now }
         ensures within { IfOk result (λ i. is_declared self.now.sizes i ≡ true) }
     {
         let (cluster, index) = two_numbers(word)?;
-        if self.is_declared(cluster, index) {
+        if cluster >= 1
+            && cluster <= self.sizes.len() as u64
+            && index < self.sizes[cluster as usize - 1] as u64
+        {
             Ok(ReplicaId {
                 cluster: cluster as u8,
                 index: index as u8,

@@ -105,7 +105,7 @@ module _ (made : Log Leaves → Maker) (journal : Log Leaves → List Entry) (sh
       → IsLawfulRun (rules_of script (map made logs) copies) t spent → IsRunOf script t
   is_run sane logs copies t spent l c limits h =
       let lawful = subst (λ r. IsLawfulRun r t spent) (same_rules logs copies l c) h in
-      record { limits = limits; timeouts = fine_timeouts script; lawful = (lawful (sane script limits (fine_timeouts script))).0 }
+      record { limits = limits; lawful = (lawful (sane script limits)).0 }
 
 -- ---- what a log is made with, and what it begins with
 

@@ -1,6 +1,5 @@
 use Rattle.std.proofs.Common.{rules, ◌≡◌, refl}
 use Rattle.audit_laws.proofs.Sanity.{sane}
-use Rattle.run_worlds.proofs.Untroubled.{fine_timeouts}
 use Rattle.script_keys.specs.Keys.{replicas_of}
 use Rattle.script_keys.specs.Requests.{copies_of}
 use Rattle.script_sim.specs.Schedules.{logs_of}
@@ -16,7 +15,7 @@ simulate-requires-clause-named c =
 pub simulate-requires-clause-apart : goal.simulate-requires-clause-apart
 simulate-requires-clause-apart c =
     let ids : c.as_slice-6.result.now ≡ replicas_of c.args.script = search rules in
-    distinct c.args.script c.as_slice-6.result.now (sane c.args.script c.requires (fine_timeouts c.args.script)).apart ids
+    distinct c.args.script c.as_slice-6.result.now (sane c.args.script c.requires).apart ids
 
 pub simulate-requires-clause-fresh : goal.simulate-requires-clause-fresh
 simulate-requires-clause-fresh c =
