@@ -6,7 +6,7 @@ pub mod Giving
 pub mod Picked
 pub mod Ready
 pub mod FewerCopies
-pub mod Rounds
+pub mod EachInTurn
 pub mod Walking
 pub mod QuietMoments
 pub mod Turns

@@ -12,7 +12,7 @@ use Rattle.fault_script.specs.declared.twists.TimeoutLine.{TimeoutLine}
 use Rattle.bft_verify.specs.Ring.{Ring}
 use Rattle.run_words.specs.Journal.{Maker}
 use Rattle.run_words.specs.Lawful.{IsApart, AreApart}
-use Rattle.run_words.specs.Runs.{Rules, Run, Line, start, after, trace_in}
+use Rattle.run_words.specs.Runs.{Rules, Run, start, after, trace_in}
 use Rattle.rand_chacha.specs.ChaCha.{ChaCha, key_of, of_seed}
 use Rattle.sim_sched.specs.Seats.{SeatView, AllOpen, receive, seat_in}
 use Rattle.sim_sched.specs.Putting.{IsNone, AreDistinct, ids_of}

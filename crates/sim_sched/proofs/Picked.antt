@@ -14,7 +14,7 @@ use Rattle.run_words.proofs.Steps.{IsStep, AreSteps, step_at, steps_made}
 use Rattle.rand_chacha.specs.ChaCha.{ChaCha, next_word, word_at}
 use Rattle.sim_sched.specs.declared.seats.Choice.{Choice}
 use Rattle.sim_sched.specs.Seats.{SeatView, seat_in, seat_steps, all_steps, IsChosen, Finds}
-use Rattle.sim_sched.specs.Simulating.{Acts, IsHeld, IsAt, IsOpen, AreRules, generator_at, word_of}
+use Rattle.sim_sched.specs.Simulating.{Acts, IsAt, IsOpen, AreRules, generator_at, word_of}
 use Rattle.sim_sched.proofs.Picking.{long_map}
 use Rattle.sim_sched.proofs.Bridge.{placed, placed_view, steps_all, acted}
 

@@ -1,17 +1,17 @@
 -- A quiet moment: nudges, and timeouts where these move nothing and there is patience; then the moment is over.
-use Rattle.std.proofs.Common.{◌≡◌, ℕ, zero, suc, ◌+◌, Bool, true, false, cond, ◌||◌, List, [], ◌∷◌, map, refl, sym, ap, subst, ◌∙◌}
+use Rattle.std.proofs.Common.{◌≡◌, ℕ, suc, Bool, true, false, cond, ◌||◌, List, [], refl, sym, ap, subst, ◌∙◌}
 use Rattle.fault_script.specs.declared.twists.TimeoutLine.{TimeoutLine}
 use Rattle.run_words.specs.declared.movers.Mover.{Mover}
 use Rattle.run_words.specs.declared.logs.Moment.{Moment}
 use Rattle.run_words.specs.Journal.{Maker, moves}
-use Rattle.run_words.specs.Runs.{Rules, Run, Phase, journal_in, give, again, over, ended, by_patience, next, next_in, is_spent}
+use Rattle.run_words.specs.Runs.{Rules, Run, Phase, journal_in, give, again, over, ended, by_patience, next, next_in}
 use Rattle.rand_chacha.specs.ChaCha.{ChaCha}
 use Rattle.sim_sched.specs.Seats.{SeatView, numbers_of}
 use Rattle.sim_sched.specs.Simulating.{AreRules}
-use Rattle.sim_sched.specs.Playing.{IsIn, IsBefore, IsEnded, with_moment, IsRound, RoundedBy, Rounded, QuietedBy, Quieted}
+use Rattle.sim_sched.specs.Playing.{IsIn, IsBefore, IsEnded, with_moment, IsRound, RoundedBy, Rounded, Quieted}
 use Rattle.sim_sched.specs.declared.rounds.Round.{Round}
 use Rattle.sim_sched.specs.declared.rounds.Progress.{Progress}
-use Rattle.sim_sched.proofs.Rounds.{reached_to, ended_by}
+use Rattle.sim_sched.proofs.EachInTurn.{reached_to, ended_by}
 
 -- ---- the two rounds
 

@@ -1,5 +1,5 @@
 -- From the start of a run to its end: turns until an entry is made, and the loop over entries.
-use Rattle.std.proofs.Common.{◌≡◌, ℕ, zero, suc, ◌+◌, ◌<◌, ◌≤◌, Bool, true, false, cond, ◌||◌, List, [], ◌∷◌, map, length, refl, sym, ap, subst, ◌∙◌, arith, add-zero, Option, Some, None}
+use Rattle.std.proofs.Common.{◌≡◌, ℕ, zero, ◌+◌, ◌<◌, ◌≤◌, Bool, true, false, cond, List, [], ◌∷◌, map, length, refl, sym, ap, subst, ◌∙◌, arith, Some, None}
 use Rattle.fab_base.specs.declared.ids.ReplicaId.{ReplicaId}
 use Rattle.fab_base.specs.Limits.{Roster}
 use Rattle.fault_script.specs.declared.twists.TimeoutLine.{TimeoutLine}
@@ -9,11 +9,11 @@ use Rattle.run_words.specs.Journal.{Maker}
 use Rattle.run_words.specs.Runs.{Rules, Run, Line, Phase, journal_in, numbers_in, ended, look, is_due, next, next_in, start, pick_from, steps}
 use Rattle.rand_chacha.specs.ChaCha.{ChaCha}
 use Rattle.sim_sched.specs.Seats.{SeatView, seat_in, numbers_of}
-use Rattle.sim_sched.specs.Simulating.{AreRules, AreLines, IsHeld, IsAt, IsOpen, IsReady, Picked}
-use Rattle.sim_sched.specs.Playing.{IsReached, IsIn, IsBefore, IsEnded, WalkedBy, Walked, TurnedBy, Turned, QuietedBy, Quieted, Played}
+use Rattle.sim_sched.specs.Simulating.{AreRules, AreLines, IsHeld, IsReady, Picked}
+use Rattle.sim_sched.specs.Playing.{IsIn, IsBefore, IsEnded, WalkedBy, Walked, Turned, Quieted, Played}
 use Rattle.sim_sched.specs.declared.rounds.Round.{Round}
 use Rattle.sim_sched.specs.declared.rounds.Progress.{Progress}
-use Rattle.sim_sched.proofs.Rounds.{reached_next, reached_to, spent_is, spent_not, ended_by}
+use Rattle.sim_sched.proofs.EachInTurn.{reached_next, reached_to, spent_is, spent_not, ended_by}
 
 own_rules : (r : Rules) (key : List ℕ) (turns : ℕ) → AreRules r key turns → AreRules r key r.turns
 own_rules r key turns u = record { distinct = u.distinct; word_so = u.word_so; turns_so = refl }

@@ -1,5 +1,5 @@
 -- The timeouts of a script are gone through: one look of the code is one step of the fold.
-use Rattle.std.proofs.Common.{◌≡◌, ℕ, zero, suc, ◌+◌, ◌<◌, ◌≤◌, ◌⊎◌, Bool, true, false, cond, nat_le, List, [], ◌∷◌, ◌++◌, map, length, get_or, set, take, drop, remove, inl, inr, refl, sym, ap, subst, ◌∙◌, arith, add-one, add-zero, true≢false, flat_map}
+use Rattle.std.proofs.Common.{◌≡◌, ℕ, zero, suc, ◌+◌, ◌<◌, ◌≤◌, Bool, true, false, cond, List, [], ◌∷◌, ◌++◌, map, length, get_or, set, take, drop, remove, inl, inr, refl, sym, ap, subst, ◌∙◌, arith, add-one, true≢false, flat_map}
 use Rattle.std.proofs.lemmas.Bool.Decides.{nat_tests}
 use Rattle.fab_base.specs.Limits.{Roster}
 use Rattle.fab_base.specs.declared.ids.ReplicaId.{ReplicaId}
@@ -9,10 +9,10 @@ use Rattle.bft_verify.specs.Ring.{Ring}
 use Rattle.run_words.specs.Keyed.{is_same}
 use Rattle.run_words.specs.Journal.{Maker, added, walk, moves, entry_of}
 use Rattle.run_words.specs.Lawful.{IsApart, AreApart}
-use Rattle.run_words.specs.Runs.{Rules, Run, Line, Phase, journal_in, copies_of, give, ended, look, is_due, next, next_in, is_spent}
+use Rattle.run_words.specs.Runs.{Rules, Run, Line, Phase, copies_of, give, ended, look, is_due, next, next_in}
 use Rattle.run_words.specs.declared.movers.Mover.{Mover}
 use Rattle.run_words.specs.declared.logs.Moment.{Moment}
-use Rattle.run_words.proofs.Keys.{same_self, same_turned, other_turned}
+use Rattle.run_words.proofs.Keys.{same_self, other_turned}
 use Rattle.rand_chacha.specs.ChaCha.{ChaCha}
 use Rattle.sim_sched.specs.Seats.{SeatView, seat_in, receive, seat_given, parcels_given, with_one}
 use Rattle.sim_sched.specs.Putting.{IsNone, ids_of, given_at}
@@ -20,11 +20,10 @@ use Rattle.sim_sched.specs.Simulating.{AreRules, IsLine, AreLines, IsHeld, IsTim
 use Rattle.sim_sched.specs.Playing.{IsReached, IsIn, IsBefore, IsEnded, WalkedBy, Walked}
 use Rattle.sim_sched.specs.declared.rounds.Round.{Round}
 use Rattle.sim_sched.proofs.Picking.{long_map}
-use Rattle.sim_sched.proofs.Picked.{beside_give}
 use Rattle.sim_sched.proofs.Bridge.{IsPlaced, placed, placed_view}
 use Rattle.sim_sched.proofs.Ready.{some_at, ready_given}
 use Rattle.sim_sched.proofs.Receiving.{received_none}
-use Rattle.sim_sched.proofs.Rounds.{reached_to, spent_is, spent_not, ended_by, held_given}
+use Rattle.sim_sched.proofs.EachInTurn.{reached_to, spent_is, spent_not, ended_by, held_given}
 
 -- ---- who gets it
 

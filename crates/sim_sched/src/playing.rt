@@ -173,7 +173,7 @@ fn turn_until<P: Party>(
 {
     let mut entries = before;
     while entries == before {
-        match turn(seats, ids, reader, generator, turns, before, lines)? {
+        match turn(seats, ids, reader, generator, turns, entries, lines)? {
             Progress::Cut => return Ok(Progress::Cut),
             Progress::On(more) => entries = more,
             Progress::Rest(more) => return Ok(Progress::Rest(more)),
@@ -208,7 +208,7 @@ pub(crate) fn play<P: Party>(
                 match quiet_moment(seats, ids, reader, turns, more, patience, moments)? {
                     Progress::Cut => return Ok(true),
                     Progress::On(after) => entries = after,
-                    Progress::Rest(_) => return Ok(false),
+                    Progress::Rest(_after) => return Ok(false),
                 }
             }
         }

@@ -1,7 +1,7 @@
 use Rattle.std.proofs.Common.{◌≡◌, ◌<◌, map, length, arith}
 use Rattle.sim_sched.specs.Seats.{seen}
 use Rattle.sim_sched.proofs.Picking.{long_map}
-use Rattle.sim_sched.proofs.Rounds.{round_spent, round_whole, round_so_moved, round_so_still}
+use Rattle.sim_sched.proofs.EachInTurn.{round_spent, round_whole, round_so_moved, round_so_still}
 use Rattle.sim_sched.proofs.playing.give_all.Goals as goal
 use Rattle.sim_sched.proofs.playing.give_all.Goals.{then-branch, else-branch}
 

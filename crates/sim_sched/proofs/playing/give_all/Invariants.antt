@@ -1,6 +1,6 @@
 use Rattle.std.proofs.Common.{map}
 use Rattle.sim_sched.specs.Seats.{seen}
-use Rattle.sim_sched.proofs.Rounds.{RoundSo}
+use Rattle.sim_sched.proofs.EachInTurn.{RoundSo}
 use Rattle.sim_sched.proofs.playing.give_all.Given as goal
 
 abbrev pub invariant-loop-place : goal.invariant-loop-place
