@@ -1,6 +1,6 @@
 -- The one run of a script of one cluster without timeout lines: nobody times out before a key is used up, as long as no two batches share a
 -- digest. At a moment that ends in timeouts nothing else can move, so all that was asked took effect, and whoever is given a timeout is calm.
-use Rattle.std.proofs.Common.{◌≡◌, ℕ, zero, suc, ◌+◌, ◌<◌, ◌≤◌, true, nat_le, List, [], ◌∷◌, ◌++◌, map, length, length-append, None, ◌⊎◌, inl, inr, refl, sym, ap, subst, ◌∙◌, arith, Bool}
+use Rattle.std.proofs.Common.{◌≡◌, ℕ, zero, suc, ◌+◌, ◌<◌, ◌≤◌, true, false, nat_le, List, [], ◌∷◌, map, length, length-append, None, ◌⊎◌, inl, inr, refl, sym, ap, subst, ◌∙◌, arith}
 use Rattle.std.proofs.lemmas.Bool.{cases_lt}
 use Rattle.fab_base.specs.Roster.{is_cluster, size_of}
 use Rattle.fab_base.specs.declared.ids.ReplicaId.{ReplicaId}
@@ -16,7 +16,7 @@ use Rattle.fault_script.specs.Scripts.{keeps_limits}
 use Rattle.world_laws.specs.World.{NoClash}
 use Rattle.heed_laws.specs.Resting.{member}
 use Rattle.run_words.specs.Journal.{Maker, state, walk, signed_by, signed_of, moves}
-use Rattle.run_words.specs.Runs.{Rules, Run, Line, journal_in, next, after, trace_in}
+use Rattle.run_words.specs.Runs.{journal_in, next, after, trace_in}
 use Rattle.run_words.specs.Lawful.{AreEach, Kept}
 use Rattle.run_words.specs.declared.movers.Mover.{Mover}
 use Rattle.run_words.specs.declared.logs.Entry.{Entry}

@@ -1,6 +1,6 @@
 -- Along a run whose rules have no lines nobody times out, as long as at each quiet moment that ends in timeouts all are calm: none would make
 -- an entry.
-use Rattle.std.proofs.Common.{◌≡◌, ℕ, ◌+◌, ◌≤◌, Bool, true, false, cond, List, [], ◌∷◌, ◌++◌, ◌⊎◌, inl, inr, refl, sym, ap, subst, ◌∙◌, arith, sum_by, Result, Ok, Err}
+use Rattle.std.proofs.Common.{◌≡◌, ℕ, suc, Bool, true, false, cond, List, [], ◌∷◌, ◌++◌, inl, inr, refl, ap, subst, arith, sum_by, Result, Ok, Err}
 use Rattle.std.specs.List.{count_by}
 use Rattle.std.proofs.lemmas.List.Sums.{sum_by-append, sum_by-cons, sum_by_push}
 use Rattle.fab_base.specs.declared.messages.Message.{Message}
@@ -9,7 +9,7 @@ use Rattle.fab_rules.specs.Lists.{In}
 use Rattle.fab_rules.proofs.Lists.{in_append_cases}
 use Rattle.run_words.specs.Keyed.{is_same}
 use Rattle.run_words.specs.Journal.{Maker, moves, entry_of, reads}
-use Rattle.run_words.specs.Runs.{Rules, Line, Run, Phase, journal_in, with_entry, give, hear, hear_by, taken_out, next, after}
+use Rattle.run_words.specs.Runs.{Rules, Line, Run, Phase, journal_in, with_entry, give, hear, hear_by, taken_out, after}
 use Rattle.run_words.specs.Lawful.{is_timed_out, Sane}
 use Rattle.run_words.specs.declared.movers.Mover.{Mover}
 use Rattle.run_words.specs.declared.logs.Entry.{Entry}
@@ -21,7 +21,7 @@ use Rattle.run_words.proofs.Keeping.{Lasts, MayBe, next_lasts, known, AreStill, 
 use Rattle.run_words.proofs.Keys.{of_more}
 use Rattle.run_words.proofs.Moments.{noted_in, noted_by, moment}
 use Rattle.run_words.proofs.Steps.{IsOwn}
-use Rattle.run_words.proofs.Trying.{timed_in, all_timed, IsTried, after_tried, IsPatient, after_patient}
+use Rattle.run_words.proofs.Trying.{timed_in, IsTried, after_tried, IsPatient, after_patient}
 
 -- no replica of the run has an entry of a Timeout
 abbrev pub AreUntimed : Rules → Run → Type 0
@@ -103,7 +103,10 @@ none_counted (e ∷ rest) h =
     let more = sum_by-cons (λ (x : Entry). cond (is_timed_out x) 1 0) e rest in
     omega (arith, more, none_counted rest (λ i. h (inr i)), first e (λ q. h (inl q)))
   where
-    first : (e : Entry) → (e ≡ Entry.TimedOut → ⊥) → cond (is_timed_out e) 1 0 ≡ 0
+    one_if : Bool → ℕ
+    one_if b = cond b 1 0
+
+    first : (e : Entry) → (e ≡ Entry.TimedOut → ⊥) → one_if (is_timed_out e) ≡ 0
     first (Entry.Heard origin x) k = refl
     first Entry.Proposed k = refl
     first Entry.Nudged k = refl
