@@ -7,7 +7,7 @@ use Rattle.fab_base.specs.declared.ids.ReplicaId.{ReplicaId}
 use Rattle.fab_base.specs.declared.ids.Who.{Who}
 use Rattle.fab_base.proofs.Tests.{and_left, and_right, below, at_most}
 use Rattle.fab_rules.specs.Lists.{In}
-use Rattle.fab_rules.proofs.Lists.{in_map, of_map}
+use Rattle.fab_rules.proofs.Lists.{in_append_left, in_map, of_map}
 use Rattle.fab_machine.specs.Step as machine
 use Rattle.fab_machine.specs.Step.{Event}
 use Rattle.fault_script.specs.declared.scripts.Script.{Script}
@@ -92,11 +92,29 @@ untimed_in script n h m i timed =
     let run = after (script_rules script) n in
     h (record { trace = trace_in run m; inside = in_map (trace_in run) m (makers_of script) (same_in m (makers_of script) i); timed = timed })
 
-untimed_told : (script : Script) (n : ℕ) → AreUntimed (script_rules script) (after (script_rules script) n) → HasTimedOut (at_step script n) → ⊥
+pub untimed_told : (script : Script) (n : ℕ) → AreUntimed (script_rules script) (after (script_rules script) n) → HasTimedOut (at_step script n) → ⊥
 untimed_told script n all h =
     let run = after (script_rules script) n in
     let from = of_map (trace_in run) h.trace (makers_of script) h.inside in
     all from.from (is_in from.from (makers_of script) from.is_in) (subst (λ (x : Trace). In Entry.TimedOut x.journal) (sym from.same) h.timed)
+
+-- an entry stays
+pub timed_later : (script : Script) (n : ℕ) → HasTimedOut (at_step script n) → HasTimedOut (at_step script (suc n))
+timed_later script n h =
+    let r = script_rules script in
+    let run = after r n in
+    let from = of_map (trace_in run) h.trace r.makers h.inside in
+    let m : Maker = from.from in
+    let here : In Entry.TimedOut (journal_in run m) = subst (λ (x : Trace). In Entry.TimedOut x.journal) (sym from.same) h.timed in
+    record {
+      trace = trace_in (next r run) m;
+      inside = in_map (trace_in (next r run)) m r.makers from.is_in;
+      timed = stays (journal_in run m) (journal_in (next r run) m) (next_longer r m run) here;
+    }
+  where
+    stays : (before now : List Entry) → IsLonger before now → In Entry.TimedOut before → In Entry.TimedOut now
+    stays before now (inl same) i = subst (In Entry.TimedOut) (sym same) i
+    stays before now (inr more) i = subst (In Entry.TimedOut) (sym more.1) (in_append_left Entry.TimedOut before (more.0 ∷ []) i)
 
 -- ---- along the run
 
