@@ -46,7 +46,7 @@ use Rattle.run_laws.proofs.Unforged.{all_made}
 use Rattle.plain_laws.specs.Plain.{IsUnspent, HasTimedOut}
 use Rattle.plain_laws.proofs.Resting as resting
 use Rattle.plain_laws.proofs.Resting.{IsStill}
-use Rattle.plain_laws.proofs.Stamps.{HasWish, AllUpTo, one_more}
+use Rattle.plain_laws.proofs.Stamps.{HasWish, AllUpTo, one_more, wish_made}
 use Rattle.budget_laws.specs.Opened.{state_at, full_at}
 use Rattle.budget_laws.specs.Proposals.{batch_in, proposals_said, requests_said, stamps_said, IsThrifty}
 use Rattle.budget_laws.proofs.Sums.{no_more, no_fewer, go_last}
@@ -198,14 +198,7 @@ module _ (t : Transcript) (run : IsRunOf t.script t) (untimed : HasTimedOut t �
       let correct : IsCorrect (world_of t) (member 0) = record { takes_part = member_known t run one some; not_faulty = ap (λ (f : Option Fault). is_some f) (none_faulty t.script (member 0)) } in
       let made : IsMade (world_of t) (Message.Request x) =
       all_made t (logs_of t run) run.lawful.delivered (member 0) correct (Message.Request x) early (Message.Request x) (inl refl) in
-      let m = of_map (λ (w : Wish). asked w []) (record x { sig = [] }) (filter (λ (w : Wish). nat_eq w.client.number x.client.number) t.script.requests) (made refl) in
-      let f = of_filter (λ (w : Wish). nat_eq w.client.number x.client.number) m.from t.script.requests m.is_in in
-      record {
-        wish = m.from;
-        inside = f.0;
-        client_is = same m.from.client.number x.client.number f.1;
-        stamp_is = ap (λ (y : Request). y.stamp) m.same;
-      }
+      wish_made t x made
 
   stamps_upto : (c : ℕ) → GoOn 1 (stamps_said c (full_at t 0)) → length (stamps_said c (full_at t 0)) ≤ count_of c t.script.requests
   stamps_upto c goes = elim (cases_lt 0 (length (stamps_said c (full_at t 0)))) [

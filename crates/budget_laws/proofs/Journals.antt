@@ -33,33 +33,10 @@ use Rattle.heed_laws.specs.Heeding.{IsPlain}
 use Rattle.plain_laws.proofs.Members.{plain_events}
 use Rattle.plain_laws.proofs.Plainness.{ArePlainEntries}
 use Rattle.fab_rules.proofs.Lists.{in_append_left, in_append_right}
-use Rattle.budget_laws.proofs.Putting.{proposed_by, silent, proposes, AllOwn, own_kept, none_known}
+use Rattle.plain_laws.proofs.Members.{none_other}
+use Rattle.budget_laws.proofs.Putting.{proposed_by, silent, proposes, AllOwn, own_kept}
 
--- ---- the journal of a replica in the transcript of a run
-
-pub journal_at : (script : Script) (run : Run) (ids : List ReplicaId) (i : ReplicaId) → In i ids
-    → journal_by i (map (trace_in run) (map (maker_of script) ids)) ≡ of i run.done
-journal_at script run [] i h = absurd h
-journal_at script run (j ∷ ids) i h = go (is_same i j) refl (λ k. journal_at script run ids i k) h
-  where
-    go : (b : Bool) → is_same i j ≡ b → (In i ids → journal_by i (map (trace_in run) (map (maker_of script) ids)) ≡ of i run.done) → In i (j ∷ ids)
-        → cond b (of j run.done) (journal_by i (map (trace_in run) (map (maker_of script) ids))) ≡ of i run.done
-    go true e later k = ap (λ q. of q run.done) (sym (same_is i j e))
-    go false e later (inl q) = absurd (let self = subst (λ k. is_same i k ≡ true) (sym q) (same_self i) in cc)
-    go false e later (inr k) = later k
-
-pub diary_at : (script : Script) (run : Run) (ids : List ReplicaId) (i : ReplicaId) → In i ids
-    → diary_in (map (maker_of script) ids) (map (trace_in run) (map (maker_of script) ids)) i ≡ diary (maker_of script i) (of i run.done)
-diary_at script run [] i h = absurd h
-diary_at script run (j ∷ ids) i h = go (is_same i j) refl (λ k. diary_at script run ids i k) h
-  where
-    go : (b : Bool) → is_same i j ≡ b
-        → (In i ids → diary_in (map (maker_of script) ids) (map (trace_in run) (map (maker_of script) ids)) i ≡ diary (maker_of script i) (of i run.done)) → In i (j ∷ ids)
-        → cond b (diary (maker_of script j) (of j run.done)) (diary_in (map (maker_of script) ids) (map (trace_in run) (map (maker_of script) ids)) i)
-        ≡ diary (maker_of script i) (of i run.done)
-    go true e later k = ap (λ q. diary (maker_of script q) (of q run.done)) (sym (same_is i j e))
-    go false e later (inl q) = absurd (let self = subst (λ k. is_same i k ≡ true) (sym q) (same_self i) in cc)
-    go false e later (inr k) = later k
+-- ---- the first replica
 
 -- the first replica of a cluster that has one
 pub record HasFirst (script : Script) : Type 0 where
@@ -86,7 +63,7 @@ map_more : (journal : List Entry) (e : Entry) → map event_of (journal ++ e ∷
 map_more [] e = refl
 map_more (x ∷ journal) e = ap (λ l. event_of x ∷ l) (map_more journal e)
 
-diary_one : (m : Maker) (journal : List Entry) (e : Entry) → IsReplayed m journal → IsReplayed m (journal ++ e ∷ [])
+pub diary_one : (m : Maker) (journal : List Entry) (e : Entry) → IsReplayed m journal → IsReplayed m (journal ++ e ∷ [])
     → diary m (journal ++ e ∷ []) ≡ diary_after m.id (state m journal) (event_of e) (step m.roster m.id (state m journal) (event_of e)).state (diary m journal)
 unfolding state
 diary_one m journal e made now =
@@ -151,7 +128,7 @@ module _ (Still : Type 0) (m : Maker) (journal : List Entry) (made : IsReplayed 
       ∙ ap (proposed_by m.id (step m.roster m.id (state m journal) (event_of e)).state) (diary_one m journal e made now)
 
   none_else : knows_others m.id.cluster (state m journal).rounds.certificates (state m journal).local.next ≡ false
-  none_else = none_known m.id (state m journal).rounds.certificates (state m journal).local.next (all_own m journal plain)
+  none_else = none_other m.id.cluster (state m journal).rounds.certificates (state m journal).local.next (all_own m journal plain)
 
   one_entry : (e : Entry) → IsPlain (event_of e) → IsReplayed m (journal ++ e ∷ []) → IsNext m journal e → IsMoment Still e
       → (batches_by m (journal ++ e ∷ []) ≡ batches_by m journal) ⊎ HasBatch Still m journal (journal ++ e ∷ [])

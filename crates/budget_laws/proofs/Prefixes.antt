@@ -31,7 +31,7 @@ use Rattle.run_words.specs.declared.logs.Entry.{Entry}
 use Rattle.run_words.specs.declared.logs.Pending.{Pending}
 use Rattle.run_words.specs.declared.logs.Transcript.{Transcript}
 use Rattle.run_words.proofs.Counts.{IsIn, journal_other}
-use Rattle.run_words.proofs.Keeping.{IsTrueLog, after_well}
+use Rattle.run_words.proofs.Keeping.{IsTrueLog, is_in, after_well}
 use Rattle.run_words.proofs.Ending.{told_by, lawful_after}
 use Rattle.run_worlds.proofs.Untroubled.{none_faulty}
 use Rattle.fault_script.specs.declared.twists.Fault.{Fault}
@@ -50,12 +50,13 @@ use Rattle.plain_laws.specs.Plain.{journal_by}
 use Rattle.plain_laws.proofs.Members.{journal_related}
 use Rattle.plain_laws.specs.Plain.{HasTimedOut}
 use Rattle.plain_laws.proofs.Plainness.{ArePlainEntries, run_plain}
-use Rattle.plain_laws.proofs.Prefixes.{at_step, run_of, IsLonger, next_longer, no_clash_before, there, made_of}
+use Rattle.plain_laws.proofs.Prefixes.{at_step, run_of, IsLonger, next_longer, no_clash_before, journal_there, diary_there}
 use Rattle.plain_laws.proofs.Timely.{timed_later}
 use Rattle.budget_laws.specs.Opened.{state_at, full_at}
 use Rattle.budget_laws.specs.Proposals.{IsThrifty, ThriftyLaw}
 use Rattle.budget_laws.proofs.Ordered.{IsMet, AreApart, ordered, thrifty_of}
 use Rattle.budget_laws.proofs.Thrift.{turn_of, orders_said, IsInTurn, AreOrdered, step_in_turn}
+use Rattle.budget_laws.proofs.Journals.{diary_one}
 use Rattle.budget_laws.proofs.Voicing.{voiced}
 
 -- ---- how much is known of a prefix
@@ -69,27 +70,6 @@ clear_before script n limits clear = (
   no_clash_before script n 1 limits (subst (λ k. NoClash (world_of (at_step script k))) (let e : suc n ≡ n + 1 = omega arith in e) clear.0),
   λ h. clear.1 (timed_later script n h),
 )
-
--- ---- a journal and its diary
-
--- the diary with one entry more
-diary_from_more : (m : Maker) (s : Replica) (past : List diaries.Entry) (journal : List Entry) (e : Entry)
-    → events.diary_from m.roster m.id s past (map event_of (journal ++ e ∷ []))
-    ≡ diary_after m.id (state_from m.roster m.id s (map event_of journal)) (event_of e) (step m.roster m.id (state_from m.roster m.id s (map event_of journal)) (event_of e)).state
-    (events.diary_from m.roster m.id s past (map event_of journal))
-diary_from_more m s past [] e = refl
-diary_from_more m s past (x ∷ rest) e =
-    let now = (step m.roster m.id s (event_of x)).state in
-    diary_from_more m now (diary_after m.id s (event_of x) now past) rest e
-
-diary_more : (m : Maker) (journal : List Entry) (e : Entry) → IsMade m journal → IsMade m (journal ++ e ∷ [])
-    → diary m (journal ++ e ∷ []) ≡ diary_after m.id (state m journal) (event_of e) (step m.roster m.id (state m journal) (event_of e)).state (diary m journal)
-unfolding state
-diary_more m journal e before now =
-    let s = state m journal in
-    same_diary m (journal ++ e ∷ []) now
-    ∙ (diary_from_more m (fresh m.roster m.id) [] journal e
-    ∙ ap (diary_after m.id s (event_of e) (step m.roster m.id s (event_of e)).state) (sym (same_diary m journal before)))
 
 -- no client of a fresh replica has a stamp
 none : (n client : ℕ) → slice_index (replicate n 0) client ≡ 0
@@ -125,7 +105,7 @@ module _ (script : Script) (limits : keeps_limits script ≡ true) (one : length
   listed = is_listed script (member 0) (known 0 some)
 
   logs : (n : ℕ) → IsTrueLog maker (journal_at n)
-  logs n = (after_well (script_rules script) n (sane script limits)).fair.logs maker (made_of script (replicas_of script) (member 0) listed)
+  logs n = (after_well (script_rules script) n (sane script limits)).fair.logs maker (is_in maker (makers_of script) (in_map (maker_of script) (member 0) (replicas_of script) listed))
 
   -- all that the primary did is plain
   pub plain_journal : (n : ℕ) → (HasTimedOut (at_step script n) → ⊥) → ArePlainEntries (journal_in (after (script_rules script) n) (maker_of script (member 0)))
@@ -140,12 +120,12 @@ module _ (script : Script) (limits : keeps_limits script ≡ true) (one : length
   voice n untimed = voiced (at_step script n) (run_of script n limits) untimed one
 
   state_is : (n : ℕ) → state_at (at_step script n) 0 ≡ now_at n
-  state_is n = ap (state maker) (there script (run_at n) (replicas_of script) (member 0) listed).journal_is
+  state_is n = ap (state maker) (journal_there script (run_at n) (replicas_of script) (member 0) listed)
 
   full_is : (n : ℕ) → full_at (at_step script n) 0 ≡ full_of (member 0) (now_at n) (diary_at n)
   full_is n =
       ap (λ s. full_of (member 0) s ((world_of (at_step script n)).diary (member 0))) (state_is n)
-      ∙ ap (full_of (member 0) (now_at n)) (there script (run_at n) (replicas_of script) (member 0) listed).diary_is
+      ∙ ap (full_of (member 0) (now_at n)) (diary_there script (run_at n) (replicas_of script) (member 0) listed)
 
   apart : (n : ℕ) → (clear : IsClear script n) → AreApart r (state_at (at_step script n)) (full_at (at_step script n)) (voice n clear.1)
   apart n clear a b ka kb same = clear.0 a b (met a ka) (met b kb) same
@@ -203,7 +183,7 @@ module _ (script : Script) (limits : keeps_limits script ≡ true) (one : length
           let grown = diary_after (member 0) s ev now past in
           let state_new : now_at (suc n) ≡ now = ap (state maker) more ∙ state_more maker (journal_at n) e in
           let made : IsMade maker (journal_at n ++ e ∷ []) = subst (IsMade maker) more (logs (suc n)).0 in
-          let diary_new : diary_at (suc n) ≡ grown = ap (diary maker) more ∙ diary_more maker (journal_at n) e (logs n).0 made in
+          let diary_new : diary_at (suc n) ≡ grown = ap (diary maker) more ∙ diary_one maker (journal_at n) e (logs n).0 made in
           let after : AreRelated r (member 0) now grown = subst (AreRelated r (member 0) now) diary_new (subst (λ x. AreRelated r (member 0) x (diary_at (suc n))) state_new (related (suc n))) in
           let orders : IsOrderedAt now grown = subst (IsOrderedAt now) diary_new (subst (λ x. IsOrderedAt x (diary_at (suc n))) state_new (ordered_at (suc n) clear)) in
           let all : IsFineAt now grown = step_in_turn r s past ev one plain (related n) (ordered_at n before) after orders fine in

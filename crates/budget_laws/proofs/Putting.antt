@@ -366,16 +366,3 @@ own_kept r me s Event.Execute plain h = execute_own r me s (next_round (length r
 own_kept r me s Event.Checkpoint plain h =
     outs_own r me (record s { local = (checkpoint r me s.local).local }) (checkpoint r me s.local).outs (marked_outs r me s.local s.local.due) h
 own_kept r me s Event.Timeout plain h = absurd plain
-
--- so none of another cluster is known
-pub none_known : (me : ReplicaId) (certificates : List CommitCert) (round : ℕ) → ((k : CommitCert) → In k certificates → k.cluster ≡ me.cluster)
-    → knows_others me.cluster certificates round ≡ false
-none_known me [] round h = refl
-none_known me (k ∷ rest) round h =
-    both (nat_eq (round_of k) round) (nat_eq k.cluster me.cluster) (are_same k.cluster me.cluster (h k (inl refl))) (none_known me rest round (λ c i. h c (inr i)))
-  where
-    both : (a b : Bool) → b ≡ true → list_any (λ c. nat_eq (round_of c) round && not (nat_eq c.cluster me.cluster)) rest ≡ false
-        → ((a && not b) || list_any (λ c. nat_eq (round_of c) round && not (nat_eq c.cluster me.cluster)) rest) ≡ false
-    both true true p q = q
-    both false b p q = q
-    both true false p q = absurd cc

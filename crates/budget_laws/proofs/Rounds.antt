@@ -35,7 +35,7 @@ use Rattle.run_words.specs.Lawful.{AreEach}
 use Rattle.run_words.specs.declared.logs.Entry.{Entry}
 use Rattle.run_words.specs.declared.logs.Transcript.{Transcript}
 use Rattle.run_words.proofs.Counts.{IsIn}
-use Rattle.run_words.proofs.Keeping.{AreStill, IsWell, after_well}
+use Rattle.run_words.proofs.Keeping.{AreStill, IsWell, is_in, after_well}
 use Rattle.run_words.proofs.Quieting.{heard_of, sent_of}
 use Rattle.run_words.proofs.Replays.{fresh_is}
 use Rattle.script_keys.specs.Keys.{leaves_of, replicas_of, height_of}
@@ -50,7 +50,7 @@ use Rattle.audit_laws.proofs.Members.{is_listed}
 use Rattle.audit_laws.proofs.Sanity.{sane}
 use Rattle.run_laws.proofs.Unforged.{nothing_forged}
 use Rattle.plain_laws.specs.Plain.{IsUnspent, HasTimedOut}
-use Rattle.plain_laws.proofs.Prefixes.{at_step, run_of, no_clash_before}
+use Rattle.plain_laws.proofs.Prefixes.{at_step, run_of, clean_prefix, still_prefix, journal_there, diary_there, no_clash_before}
 use Rattle.plain_laws.proofs.Timely.{spent_or_not, untimed_told, timely_step}
 use Rattle.plain_laws.proofs.Untimed.{start_untimed}
 use Rattle.plain_laws.proofs.Resting.{IsStill}
@@ -58,10 +58,9 @@ use Rattle.budget_laws.specs.Budgets.{requests_at, rounds_of}
 use Rattle.budget_laws.specs.Opened.{state_at, full_at, slots_opened}
 use Rattle.budget_laws.specs.Proposals.{proposals_said, requests_said, stamps_said, IsThrifty}
 use Rattle.budget_laws.proofs.Asked.{stamps_among, member_known, home_is, requests_few, requests_all, last_eligible}
-use Rattle.budget_laws.proofs.Journals.{journal_at, diary_at, first_of_all, batches_by, HasBatch, one_step}
+use Rattle.budget_laws.proofs.Journals.{first_of_all, batches_by, HasBatch, one_step}
 use Rattle.budget_laws.proofs.Moments.{step_of}
 use Rattle.budget_laws.proofs.Prefixes.{IsClear, plain_journal, thrifty}
-use Rattle.budget_laws.proofs.Stillness.{idle_then}
 use Rattle.budget_laws.proofs.Sums.{go_below, go_last}
 use Rattle.budget_laws.proofs.Voicing.{next_opened, spent_opened}
 
@@ -214,23 +213,18 @@ module _ (script : Script) (limits : keeps_limits script ≡ true) (one : length
   listed = is_listed script (member 0) (member_known (t 0) (run 0) one some)
 
   state_is : (n : ℕ) → state_at (at_step script n) 0 ≡ state (maker_of script (member 0)) (journal n)
-  state_is n = ap (state primary) (journal_at script (after rules n) (replicas_of script) (member 0) listed)
+  state_is n = ap (state primary) (journal_there script (after rules n) (replicas_of script) (member 0) listed)
 
   batches_are : (n : ℕ) → proposals_said (full_at (at_step script n) 0) ≡ batches_by (maker_of script (member 0)) (journal n)
   batches_are n =
       ap (λ s. proposals_said (full_of (member 0) s ((world_of (t n)).diary (member 0)))) (state_is n)
-      ∙ ap (λ d. proposals_said (full_of (member 0) (state primary (journal n)) d)) (diary_at script (after rules n) (replicas_of script) (member 0) listed)
+      ∙ ap (λ d. proposals_said (full_of (member 0) (state primary (journal n)) d)) (diary_there script (after rules n) (replicas_of script) (member 0) listed)
 
   well : (n : ℕ) → IsWell (script_rules script) (after (script_rules script) n)
   well n = after_well rules n (sane script limits)
 
-  same_in : (m : Maker) (makers : List Maker) → In m makers → IsIn m makers
-  same_in m [] h = h
-  same_in m (x ∷ rest) (inl e) = inl (sym e)
-  same_in m (x ∷ rest) (inr h) = inr (same_in m rest h)
-
   replays : (n : ℕ) → IsReplayed (maker_of script (member 0)) (journal n)
-  replays n = ((well n).fair.logs primary (same_in primary (makers_of script) (in_map (maker_of script) (member 0) (replicas_of script) listed))).0
+  replays n = ((well n).fair.logs primary (is_in primary (makers_of script) (in_map (maker_of script) (member 0) (replicas_of script) listed))).0
 
   stepped : (n : ℕ) → (HasTimedOut (at_step script (suc n)) → ⊥) → (batches_by (maker_of script (member 0)) (journal (suc n)) ≡ batches_by (maker_of script (member 0)) (journal n))
       ⊎ HasBatch (AreStill (script_rules script) (after (script_rules script) n)) (maker_of script (member 0)) (journal n) (journal (suc n))
@@ -259,9 +253,6 @@ module _ (script : Script) (limits : keeps_limits script ≡ true) (one : length
         omega (arith, upto, opened_few n none filled, leaves_are script spent.trace.id limits, fits))
   ]
 
-  clean : (n : ℕ) → IsClear script n → first_evidence (at_step script n) ≡ None
-  clean n none = no_evidence (t n) (logs_of (t n) (run n)) (nothing_forged script (t n) (run n)) none.0
-
   -- where all that is eligible is proposed at a quiet moment, all that the script asks was proposed
   proposes_all : (n : ℕ) → IsClear script n → IsClear script (suc n) → AreFilled script (proposals_said (full_at (at_step script n) 0))
       → AreStill (script_rules script) (after (script_rules script) n)
@@ -289,13 +280,8 @@ module _ (script : Script) (limits : keeps_limits script ≡ true) (one : length
                   let there = stamps_among c (length before) (requests_said (full_at (t n) 0)) (requests_said (full_at (t (suc n)) 0)) (λ x h. among x (inl h)) last in
                   omega (arith, done, next_is, go_below 1 now (length before) goes_on there))
             ]
-            | inr left ↦ (let quiet : IsStill (at_step script n) =
-                record {
-                  all_heard = heard_of rules (after rules n) (sane script limits).apart (well n).fair still;
-                  sent = sent_of rules (after rules n) still;
-                  idle = idle_then rules (after rules n) still;
-                } in
-                let last = last_eligible (t n) (run n) none.1 one some quiet (unspent n none filled) (clean n none) c lt left in
+            | inr left ↦ (let quiet = still_prefix script n limits still in
+                let last = last_eligible (t n) (run n) none.1 one some quiet (unspent n none filled) (clean_prefix script n limits none.0) c lt left in
                 let there = stamps_among c (count_of c script.requests) (eligible (state_at (t n) 0).local) (requests_said (full_at (t (suc n)) 0)) (λ x h. among x (inr h)) last in
                 omega (arith, go_below 1 now (count_of c script.requests) goes_on there))
           ]

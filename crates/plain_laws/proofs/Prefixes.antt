@@ -10,14 +10,16 @@ use Rattle.fault_script.specs.declared.scripts.Script.{Script}
 use Rattle.fault_script.specs.Scripts.{keeps_limits}
 use Rattle.bft_verify.specs.declared.refusals.Refusal.{Refusal}
 use Rattle.world_laws.specs.World.{IsKnown, NoClash}
-use Rattle.run_words.specs.Keyed.{is_same}
+use Rattle.run_words.specs.Keyed.{is_same, of}
 use Rattle.run_words.specs.Journal.{Maker, moves, entry_of, diary, reads}
 use Rattle.run_words.specs.Runs.{HasEnded, Rules, Line, Run, Phase, Step, again, over, ended, by_patience, look, is_due, journal_in, with_entry, give, hear, hear_by, taken_out, steps, pick_from, take_step, next, next_in, is_spent, after, trace_in, transcript}
 use Rattle.run_words.specs.declared.movers.Mover.{Mover}
 use Rattle.run_words.specs.declared.logs.Entry.{Entry}
 use Rattle.run_words.specs.declared.logs.Pending.{Pending}
 use Rattle.run_words.specs.declared.logs.Transcript.{Transcript}
-use Rattle.run_words.proofs.Counts.{IsIn, journal_other}
+use Rattle.run_words.proofs.Counts.{journal_other}
+use Rattle.run_words.proofs.Keeping.{AreStill, after_well}
+use Rattle.run_words.proofs.Quieting.{each_of, heard_of, sent_of}
 use Rattle.run_words.proofs.Ending.{told_by, told_with, lawful_after}
 use Rattle.run_words.proofs.Moments.{noted_by}
 use Rattle.run_words.proofs.Keys.{of_more, same_is, same_self}
@@ -31,6 +33,8 @@ use Rattle.run_laws.proofs.Unforged.{nothing_forged}
 use Rattle.audit_laws.proofs.Journals.{was_heard, is_heard}
 use Rattle.audit_laws.proofs.Sanity.{sane}
 use Rattle.plain_laws.specs.Plain.{journal_by}
+use Rattle.plain_laws.proofs.Members.{IsUnmoved}
+use Rattle.plain_laws.proofs.Resting.{IsStill}
 
 -- ---- a prefix is lawful
 
@@ -56,6 +60,17 @@ clean_prefix script n limits none =
     let t = at_step script n in
     let run = run_of script n limits in
     no_evidence t (logs_of t run) (nothing_forged script t run) none
+
+-- where nothing is on its way and nothing but a Nudge or a Timeout would make an entry
+pub still_prefix : (script : Script) (n : ℕ) → keeps_limits script ≡ true → AreStill (script_rules script) (after (script_rules script) n) → IsStill (at_step script n)
+still_prefix script n limits still =
+    let r = script_rules script in
+    let run = after r n in
+    record {
+      all_heard = heard_of r run (sane script limits).apart (after_well r n (sane script limits)).fair still;
+      sent = sent_of r run still;
+      idle = each_of IsUnmoved (trace_in run) r.makers (λ m i. record { batch = (still m i).1; execute = (still m i).3; checkpoint = (still m i).4 });
+    }
 
 -- ---- a step adds one entry at most to a journal
 
@@ -183,33 +198,28 @@ no_clash_before script m k limits late a b ka kb same = late a b (known a ka) (k
     known batch (inl none) = inl none
     known batch (inr by) = inr (known_later script m k batch by)
 
--- ---- the journal and the diary of a replica after so many steps
+-- ---- the journal and the diary of a replica in the transcript of a run
 
-pub record IsThere (script : Script) (run : Run) (ids : List ReplicaId) (i : ReplicaId) : Type 0 where
-  pub journal_is : journal_by i (map (trace_in run) (map (maker_of script) ids)) ≡ journal_in run (maker_of script i)
-  pub diary_is : diary_in (map (maker_of script) ids) (map (trace_in run) (map (maker_of script) ids)) i ≡ diary (maker_of script i) (journal_in run (maker_of script i))
-
-pub there : (script : Script) (run : Run) (ids : List ReplicaId) (i : ReplicaId) → In i ids → IsThere script run ids i
-there script run [] i h = absurd h
-there script run (j ∷ ids) i h = go (is_same i j) refl (there script run ids i) h
+pub journal_there : (script : Script) (run : Run) (ids : List ReplicaId) (i : ReplicaId) → In i ids
+    → journal_by i (map (trace_in run) (map (maker_of script) ids)) ≡ of i run.done
+journal_there script run [] i h = absurd h
+journal_there script run (j ∷ ids) i h = go (is_same i j) refl (λ k. journal_there script run ids i k) h
   where
-    go : (b : Bool) → is_same i j ≡ b → (In i ids → IsThere script run ids i) → In i (j ∷ ids) → IsThere script run (j ∷ ids) i
-    go true e later q =
-        let is = same_is i j e in
-        let first : IsThere script run (j ∷ ids) j = record {
-          journal_is = ap (λ b. cond b (journal_in run (maker_of script j)) (journal_by j (map (trace_in run) (map (maker_of script) ids)))) (same_self j);
-          diary_is = ap (λ b. cond b (diary (maker_of script j) (journal_in run (maker_of script j))) (diary_in (map (maker_of script) ids) (map (trace_in run) (map (maker_of script) ids)) j)) (same_self j);
-        } in
-        subst (IsThere script run (j ∷ ids)) (sym is) first
+    go : (b : Bool) → is_same i j ≡ b → (In i ids → journal_by i (map (trace_in run) (map (maker_of script) ids)) ≡ of i run.done) → In i (j ∷ ids)
+        → cond b (of j run.done) (journal_by i (map (trace_in run) (map (maker_of script) ids))) ≡ of i run.done
+    go true e later k = ap (λ q. of q run.done) (sym (same_is i j e))
     go false e later (inl q) = absurd (let self = subst (λ k. is_same i k ≡ true) (sym q) (same_self i) in cc)
-    go false e later (inr k) =
-        let l = later k in
-        record {
-          journal_is = ap (λ b. cond b (journal_in run (maker_of script j)) (journal_by i (map (trace_in run) (map (maker_of script) ids)))) e ∙ l.journal_is;
-          diary_is = ap (λ b. cond b (diary (maker_of script j) (journal_in run (maker_of script j))) (diary_in (map (maker_of script) ids) (map (trace_in run) (map (maker_of script) ids)) i)) e ∙ l.diary_is;
-        }
+    go false e later (inr k) = later k
 
-pub made_of : (script : Script) (ids : List ReplicaId) (i : ReplicaId) → In i ids → IsIn (maker_of script i) (map (maker_of script) ids)
-made_of script [] i h = absurd h
-made_of script (j ∷ ids) i (inl e) = inl (ap (maker_of script) (sym e))
-made_of script (j ∷ ids) i (inr h) = inr (made_of script ids i h)
+pub diary_there : (script : Script) (run : Run) (ids : List ReplicaId) (i : ReplicaId) → In i ids
+    → diary_in (map (maker_of script) ids) (map (trace_in run) (map (maker_of script) ids)) i ≡ diary (maker_of script i) (of i run.done)
+diary_there script run [] i h = absurd h
+diary_there script run (j ∷ ids) i h = go (is_same i j) refl (λ k. diary_there script run ids i k) h
+  where
+    go : (b : Bool) → is_same i j ≡ b
+        → (In i ids → diary_in (map (maker_of script) ids) (map (trace_in run) (map (maker_of script) ids)) i ≡ diary (maker_of script i) (of i run.done)) → In i (j ∷ ids)
+        → cond b (diary (maker_of script j) (of j run.done)) (diary_in (map (maker_of script) ids) (map (trace_in run) (map (maker_of script) ids)) i)
+        ≡ diary (maker_of script i) (of i run.done)
+    go true e later k = ap (λ q. diary (maker_of script q) (of q run.done)) (sym (same_is i j e))
+    go false e later (inl q) = absurd (let self = subst (λ k. is_same i k ≡ true) (sym q) (same_self i) in cc)
+    go false e later (inr k) = later k

@@ -24,7 +24,7 @@ use Rattle.run_words.specs.declared.logs.Trace.{Trace}
 use Rattle.run_words.specs.declared.logs.Transcript.{Transcript}
 use Rattle.run_words.proofs.Counts.{IsIn}
 use Rattle.run_words.proofs.Keeping.{AreStill, AreUnmoved, is_in, after_well}
-use Rattle.run_words.proofs.Quieting.{each_of, heard_of, sent_of, unmoved_each}
+use Rattle.run_words.proofs.Quieting.{unmoved_each}
 use Rattle.run_words.proofs.Walks.{walk_more}
 use Rattle.script_keys.specs.Keys.{leaves_of, replicas_of}
 use Rattle.run_worlds.specs.Scripts.{roster_of, maker_of, makers_of, line_of, script_rules}
@@ -37,9 +37,8 @@ use Rattle.audit_laws.proofs.Members.{takes_part}
 use Rattle.audit_laws.proofs.Sanity.{sane}
 use Rattle.audit_laws.proofs.Traces.{trace_is}
 use Rattle.plain_laws.specs.Plain.{journal_by, IsUnspent, HasSpent, HasTimedOut, TimelyLaw}
-use Rattle.plain_laws.proofs.Members.{IsUnmoved}
-use Rattle.plain_laws.proofs.Prefixes.{at_step, run_of, told_ended, clean_prefix, IsLonger, next_longer, no_clash_before, there}
-use Rattle.plain_laws.proofs.Resting.{IsStill, calm_here}
+use Rattle.plain_laws.proofs.Prefixes.{at_step, run_of, told_ended, clean_prefix, IsLonger, next_longer, no_clash_before, still_prefix, journal_there}
+use Rattle.plain_laws.proofs.Resting.{calm_here}
 use Rattle.plain_laws.proofs.Untimed.{AreUntimed, untimed_next, start_untimed}
 
 -- ---- who used up its key
@@ -132,13 +131,6 @@ module _ (script : Script) (limits : keeps_limits script ≡ true) (one : length
       let run = after r n in
       let t = at_step script n in
       let lawful : IsRunOf script (at_step script n) = run_of script n limits in
-      let fair = (after_well r n (sane script limits)).fair in
-      let apart = (sane script limits).apart in
-      let quiet : IsStill (at_step script n) = record {
-        all_heard = heard_of r run apart fair still;
-        sent = sent_of r run still;
-        idle = each_of IsUnmoved (trace_in run) r.makers (λ x j. record { batch = (still x j).1; execute = (still x j).3; checkpoint = (still x j).4 });
-      } in
       let from = of_map (maker_of script) m (replicas_of script) (same_in m (makers_of script) i) in
       let id : ReplicaId = from.from in
       let part = takes_part script id from.is_in in
@@ -149,9 +141,9 @@ module _ (script : Script) (limits : keeps_limits script ≡ true) (one : length
       let index = subst (λ c. id.index < size_of (roster_of script) c) only
       (below id.index (size_of (roster_of script) id.cluster) (and_right (is_cluster (roster_of script) id.cluster) _ part)) in
       let named : member id.index ≡ id = ap (λ c. let x : ReplicaId = record { cluster = c; index = id.index } in x) (sym only) in
-      let calm = calm_here t lawful untimed quiet (unmoved_each r run apart fair unmoved) unspent (clean_prefix script n limits clear) one id.index index in
+      let calm = calm_here t lawful untimed (still_prefix script n limits still) (unmoved_each r run (sane script limits).apart (after_well r n (sane script limits)).fair unmoved) unspent (clean_prefix script n limits clear) one id.index index in
       let here = subst (λ x. machine.moves (roster_of script) x (state (maker_of script x) (journal_by x t.traces)) Event.Timeout ≡ false) named calm in
-      let at = subst (λ j. machine.moves (roster_of script) id (state (maker_of script id) j) Event.Timeout ≡ false) (there script run (replicas_of script) id from.is_in).journal_is here in
+      let at = subst (λ j. machine.moves (roster_of script) id (state (maker_of script id) j) Event.Timeout ≡ false) (journal_there script run (replicas_of script) id from.is_in) here in
       subst (λ (x : Maker). moves x (journal_in run x) Mover.Timeout ≡ false) from.same (timeout_calm (maker_of script id) (journal_in run (maker_of script id)) at)
 
   -- so nobody times out in the next step
