@@ -31,7 +31,6 @@ use Rattle.heed_laws.specs.Heeding.{IsHeeded, IsWaitingFor, IsAskedFor}
 use Rattle.heed_laws.specs.Resting.{member}
 use Rattle.run_words.specs.Lawful.{AreEach}
 use Rattle.run_words.specs.declared.logs.Transcript.{Transcript}
-use Rattle.script_keys.specs.Requests.{asked}
 use Rattle.script_keys.proofs.Wishes.{asked_in}
 use Rattle.script_keys.proofs.Wishes as wishes
 use Rattle.run_worlds.proofs.Untroubled.{none_faulty}

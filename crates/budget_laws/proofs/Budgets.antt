@@ -1,5 +1,5 @@
 -- The one run of a script whose keys and turns are enough ends done.
-use Rattle.std.proofs.Common.{◌≡◌, ℕ, ◌+◌, ◌*◌, ◌≤◌, Bool, true, false, cond, not, nat_le, List, [], ◌∷◌, length, sum, Option, Some, None, ◌⊎◌, inl, inr, refl, ap, subst, ◌∙◌, arith, sym, append-nil}
+use Rattle.std.proofs.Common.{◌≡◌, ℕ, ◌+◌, ◌*◌, ◌≤◌, Bool, true, false, cond, not, nat_le, List, [], ◌∷◌, length, sum, Option, Some, None, ◌⊎◌, inl, inr, refl, ap, subst, ◌∙◌, arith}
 use Rattle.std.specs.Prelude.{slice_index}
 use Rattle.std.specs.List.{find}
 use Rattle.std.proofs.Math.Nat.{mul_assoc, mul-le-mul_left, mul-le-mul_right, one-mul, mul-one}
@@ -10,9 +10,7 @@ use Rattle.fault_script.specs.declared.scripts.Script.{Script}
 use Rattle.fault_script.specs.declared.scripts.Wish.{Wish}
 use Rattle.fault_script.specs.Scripts.{keeps_limits}
 use Rattle.run_words.specs.Lawful.{entries_of}
-use Rattle.run_words.specs.Runs.{HasEnded, IsSchedule, Phase, after, transcript}
-use Rattle.run_words.proofs.Ending.{told_with}
-use Rattle.run_words.proofs.Moments.{noted_by}
+use Rattle.run_words.specs.Runs.{IsSchedule}
 use Rattle.run_words.specs.declared.ends.End.{End}
 use Rattle.run_words.specs.declared.ends.Evidence.{Evidence}
 use Rattle.run_words.specs.declared.logs.Transcript.{Transcript}

@@ -1,5 +1,5 @@
 -- The primary of a run of one cluster, by its journal: its state and diary, and what an entry more adds to what it proposed.
-use Rattle.std.proofs.Common.{◌≡◌, ℕ, zero, suc, ◌<◌, ◌≤◌, Bool, true, false, cond, ◌&&◌, ◌||◌, nat_le, List, [], ◌∷◌, ◌++◌, map, take, length, ◌⊎◌, inl, inr, refl, sym, ap, subst, ◌∙◌, arith}
+use Rattle.std.proofs.Common.{◌≡◌, ℕ, zero, suc, ◌<◌, ◌≤◌, Bool, true, false, ◌&&◌, ◌||◌, nat_le, List, [], ◌∷◌, ◌++◌, map, take, length, ◌⊎◌, inl, inr, refl, sym, ap, subst, ◌∙◌, arith}
 use Rattle.std.specs.Prelude.{slice_index}
 use Rattle.std.specs.List.{range_with_len}
 use Rattle.fab_base.specs.Limits.{Roster}
@@ -17,17 +17,12 @@ use Rattle.fab_machine.specs.Diaries.{state_from, state_of, diary_after, diary_o
 use Rattle.fab_machine.specs.Diaries as events
 use Rattle.fault_script.specs.declared.scripts.Script.{Script}
 use Rattle.heed_laws.specs.Resting.{member}
-use Rattle.run_words.specs.Keyed.{is_same, of}
 use Rattle.run_words.specs.Journal.{Maker, event_of, state, diary, moves, IsNext, IsMade as IsReplayed}
-use Rattle.run_words.specs.Runs.{Run, trace_in}
 use Rattle.run_words.specs.declared.movers.Mover.{Mover}
 use Rattle.run_words.specs.declared.logs.Entry.{Entry}
-use Rattle.run_words.proofs.Keys.{same_is, same_self}
 use Rattle.run_words.proofs.Replays.{state_more, same_diary}
 use Rattle.script_keys.specs.Keys.{replicas_from}
 use Rattle.run_worlds.specs.Scripts.{maker_of}
-use Rattle.run_worlds.specs.Worlds.{diary_in}
-use Rattle.plain_laws.specs.Plain.{journal_by}
 use Rattle.budget_laws.proofs.Moments.{IsMoment, IsStepOf}
 use Rattle.heed_laws.specs.Heeding.{IsPlain}
 use Rattle.plain_laws.proofs.Members.{plain_events}

@@ -1,52 +1,38 @@
 -- The one run of a script, step by step: as long as no two batches share a digest and nobody timed out, its primary wastes nothing.
-use Rattle.std.proofs.Common.{Option, ◌≡◌, ℕ, zero, suc, ◌+◌, ◌<◌, Bool, true, false, cond, ◌||◌, nat_le, List, [], ◌∷◌, ◌++◌, map, length, ◌⊎◌, inl, inr, refl, sym, ap, subst, ◌∙◌, Result, Ok, Err, arith, get_or, ◌%◌}
+use Rattle.std.proofs.Common.{Option, ◌≡◌, ℕ, zero, suc, ◌+◌, ◌<◌, true, nat_le, List, [], ◌∷◌, ◌++◌, length, ◌⊎◌, inl, inr, refl, sym, ap, subst, ◌∙◌, arith}
 use Rattle.std.specs.Prelude.{slice_index, replicate}
 use Rattle.fab_base.specs.Limits.{Roster}
 use Rattle.fab_base.specs.Roster.{is_replica, is_cluster, size_of}
-use Rattle.fab_base.specs.declared.ids.ReplicaId.{ReplicaId}
 use Rattle.fab_base.specs.declared.requests.Request.{Request}
-use Rattle.fab_base.specs.declared.messages.Message.{Message}
 use Rattle.fab_base.proofs.Tests.{and_both, is_below, is_at_most}
 use Rattle.fab_rules.specs.Diary as diaries
 use Rattle.fab_rules.specs.Diary.{Heard}
 use Rattle.fab_rules.specs.Lists.{In}
-use Rattle.fab_rules.proofs.Lists.{in_append_left, in_append_right, in_map}
+use Rattle.fab_rules.proofs.Lists.{in_append_right, in_map}
 use Rattle.fab_rules.proofs.Saying.{heard_before}
-use Rattle.fab_machine.specs.State.{Replica, fresh}
+use Rattle.fab_machine.specs.State.{Replica}
 use Rattle.fab_machine.specs.Items.{statements_in}
 use Rattle.fab_machine.specs.Step.{step}
-use Rattle.fab_machine.specs.Diaries as events
-use Rattle.fab_machine.specs.Diaries.{diary_after, state_from}
+use Rattle.fab_machine.specs.Diaries.{diary_after}
 use Rattle.fab_machine.specs.Relation.{full_of, AreRelated}
 use Rattle.fault_script.specs.declared.scripts.Script.{Script}
 use Rattle.fault_script.specs.Scripts.{keeps_limits}
-use Rattle.bft_verify.specs.declared.refusals.Refusal.{Refusal}
 use Rattle.world_laws.specs.World.{IsKnown, NoClash}
 use Rattle.heed_laws.specs.Resting.{member, IsVoiced}
-use Rattle.run_words.specs.Keyed.{is_same}
-use Rattle.run_words.specs.Journal.{Maker, event_of, moves, entry_of, state, diary, reads, IsMade}
-use Rattle.run_words.specs.Runs.{Rules, Line, Run, Phase, Step, again, over, ended, by_patience, look, is_due, journal_in, with_entry, give, hear, hear_by, taken_out, steps, pick_from, take_step, next, next_in, is_spent, after, trace_in, transcript}
-use Rattle.run_words.specs.declared.movers.Mover.{Mover}
+use Rattle.run_words.specs.Journal.{Maker, event_of, state, diary, IsMade}
+use Rattle.run_words.specs.Runs.{Run, journal_in, after, trace_in}
 use Rattle.run_words.specs.declared.logs.Entry.{Entry}
-use Rattle.run_words.specs.declared.logs.Pending.{Pending}
-use Rattle.run_words.specs.declared.logs.Transcript.{Transcript}
-use Rattle.run_words.proofs.Counts.{IsIn, journal_other}
 use Rattle.run_words.proofs.Keeping.{IsTrueLog, is_in, after_well}
-use Rattle.run_words.proofs.Ending.{told_by, lawful_after}
 use Rattle.run_worlds.proofs.Untroubled.{none_faulty}
 use Rattle.fault_script.specs.declared.twists.Fault.{Fault}
 use Rattle.std.specs.Option.{is_some}
-use Rattle.run_words.proofs.Keys.{of_more, same_is, same_self}
-use Rattle.run_words.proofs.Replays.{same_diary, state_more}
+use Rattle.run_words.proofs.Replays.{state_more}
 use Rattle.script_keys.specs.Keys.{replicas_of}
 use Rattle.run_worlds.specs.Scripts.{roster_of, maker_of, makers_of, script_rules}
-use Rattle.run_worlds.specs.Worlds.{diary_in, world_of}
-use Rattle.run_worlds.specs.Endings.{IsRunOf}
+use Rattle.run_worlds.specs.Worlds.{world_of}
 use Rattle.run_worlds.proofs.ScriptLimits.{within_limits}
-use Rattle.audit_laws.proofs.Journals.{was_heard, is_heard}
 use Rattle.audit_laws.proofs.Members.{is_listed}
 use Rattle.audit_laws.proofs.Sanity.{sane}
-use Rattle.plain_laws.specs.Plain.{journal_by}
 use Rattle.plain_laws.proofs.Members.{journal_related}
 use Rattle.plain_laws.specs.Plain.{HasTimedOut}
 use Rattle.plain_laws.proofs.Plainness.{ArePlainEntries, run_plain}

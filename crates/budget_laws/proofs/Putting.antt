@@ -1,10 +1,8 @@
 -- What is proposed by an event: a Batch or a Nudge that makes an entry proposes one batch, and no other event proposes. No replica forms a
 -- certificate of another cluster.
 use Rattle.std.proofs.Common.{◌≡◌, ℕ, zero, suc, ◌%◌, nat_eq, nat_lt, Bool, true, false, cond, not, ◌&&◌, ◌||◌, List, [], ◌∷◌, ◌++◌, length, take, drop, append_assoc, Option, Some, None, Result, Ok, Err, inl, inr, refl, sym, ap, subst, ◌∙◌}
-use Rattle.std.specs.List.{list_any}
 use Rattle.std.proofs.lemmas.List.{append-nil}
 use Rattle.fab_base.specs.Limits.{Roster}
-use Rattle.fab_base.proofs.Tests.{are_same}
 use Rattle.fab_base.specs.Roster.{size_of}
 use Rattle.fab_base.specs.declared.limits.TheConstants.{GREATEST_NUMBER}
 use Rattle.fab_base.specs.declared.ids.ReplicaId.{ReplicaId}

@@ -1,6 +1,6 @@
 -- How many slots the primary of the one run of a script opens: each batch is full, but for one at a quiet moment at which all that the script
 -- asks is proposed.
-use Rattle.std.proofs.Common.{◌≡◌, ℕ, zero, suc, ◌+◌, ◌*◌, ◌/◌, ◌^◌, ◌<◌, ◌≤◌, Bool, true, false, cond, ◌||◌, nat_eq, nat_le, nat_lt, List, [], ◌∷◌, ◌++◌, filter, take, length, None, ◌⊎◌, inl, inr, refl, sym, ap, subst, ◌∙◌, arith, length-append, append-nil}
+use Rattle.std.proofs.Common.{◌≡◌, ℕ, zero, suc, ◌+◌, ◌*◌, ◌/◌, ◌^◌, ◌<◌, ◌≤◌, Bool, true, false, cond, ◌||◌, nat_eq, nat_le, nat_lt, List, [], ◌∷◌, ◌++◌, filter, take, length, ◌⊎◌, inl, inr, refl, sym, ap, subst, ◌∙◌, arith, length-append, append-nil}
 use Rattle.std.specs.Prelude.{slice_index}
 use Rattle.std.specs.List.{flat_map, sum_by, range_with_len}
 use Rattle.std.proofs.Math.Nat.{add-mul, one-mul, zero-mul, le-div_iff_mul-le}
@@ -34,26 +34,19 @@ use Rattle.run_words.specs.Runs.{Rules, journal_in, after}
 use Rattle.run_words.specs.Lawful.{AreEach}
 use Rattle.run_words.specs.declared.logs.Entry.{Entry}
 use Rattle.run_words.specs.declared.logs.Transcript.{Transcript}
-use Rattle.run_words.proofs.Counts.{IsIn}
 use Rattle.run_words.proofs.Keeping.{AreStill, IsWell, is_in, after_well}
-use Rattle.run_words.proofs.Quieting.{heard_of, sent_of}
 use Rattle.run_words.proofs.Replays.{fresh_is}
 use Rattle.script_keys.specs.Keys.{leaves_of, replicas_of, height_of}
 use Rattle.script_keys.proofs.Wishes.{asked_in}
 use Rattle.run_worlds.specs.Scripts.{roster_of, maker_of, makers_of, script_rules}
 use Rattle.run_worlds.specs.Worlds.{world_of}
-use Rattle.run_worlds.specs.Sights.{first_evidence}
 use Rattle.run_worlds.specs.Endings.{IsRunOf}
-use Rattle.run_worlds.proofs.RunLogs.{logs_of}
-use Rattle.audit_laws.proofs.Evidence.{no_evidence}
 use Rattle.audit_laws.proofs.Members.{is_listed}
 use Rattle.audit_laws.proofs.Sanity.{sane}
-use Rattle.run_laws.proofs.Unforged.{nothing_forged}
 use Rattle.plain_laws.specs.Plain.{IsUnspent, HasTimedOut}
 use Rattle.plain_laws.proofs.Prefixes.{at_step, run_of, clean_prefix, still_prefix, journal_there, diary_there, no_clash_before}
 use Rattle.plain_laws.proofs.Timely.{spent_or_not, untimed_told, timely_step}
 use Rattle.plain_laws.proofs.Untimed.{start_untimed}
-use Rattle.plain_laws.proofs.Resting.{IsStill}
 use Rattle.budget_laws.specs.Budgets.{requests_at, rounds_of}
 use Rattle.budget_laws.specs.Opened.{state_at, full_at, slots_opened}
 use Rattle.budget_laws.specs.Proposals.{proposals_said, requests_said, stamps_said, IsThrifty}
