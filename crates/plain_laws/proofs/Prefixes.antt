@@ -25,13 +25,13 @@ use Rattle.run_words.proofs.Moments.{noted_by}
 use Rattle.run_words.proofs.Keys.{of_more, same_is, same_self}
 use Rattle.run_worlds.specs.Scripts.{maker_of, makers_of, script_rules}
 use Rattle.run_worlds.specs.Worlds.{diary_in, world_of}
-use Rattle.run_worlds.specs.Endings.{IsRunOf}
 use Rattle.run_worlds.specs.Sights.{first_evidence}
+use Rattle.run_worlds.specs.Endings.{IsRunOf}
 use Rattle.run_worlds.proofs.RunLogs.{logs_of}
 use Rattle.audit_laws.proofs.Evidence.{no_evidence}
-use Rattle.run_laws.proofs.Unforged.{nothing_forged}
 use Rattle.audit_laws.proofs.Journals.{was_heard, is_heard}
 use Rattle.audit_laws.proofs.Sanity.{sane}
+use Rattle.run_laws.proofs.Unforged.{nothing_forged}
 use Rattle.plain_laws.specs.Plain.{journal_by}
 use Rattle.plain_laws.proofs.Members.{IsUnmoved}
 use Rattle.plain_laws.proofs.Resting.{IsStill}
