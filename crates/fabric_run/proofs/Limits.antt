@@ -12,7 +12,7 @@ use Rattle.seq_table.specs.Holding.{WritesShort}
 use Rattle.fault_script.specs.declared.scripts.Script.{Script}
 use Rattle.fault_script.specs.declared.scripts.Wish.{Wish}
 use Rattle.fault_script.specs.Fields.{is_within}
-use Rattle.fault_script.specs.Scripts.{are_sizes, are_homes, is_wish, stamps_run, are_wishes, keeps_limits}
+use Rattle.fault_script.specs.Scripts.{are_sizes, are_homes, is_wish, stamps_run, are_wishes, are_timeouts, keeps_limits}
 use Rattle.fault_script.specs.Settings.{are_settings}
 use Rattle.fabric_run.specs.Plain.{request_of, requests_of}
 

@@ -33,7 +33,7 @@ returns-clause-schedule c =
     let logs : c.in_ok-logs.logs.items ≡ logs_of c.args.script = search rules in
     let copies : c.into_vec-2.result.items ≡ copies_of c.args.script = search rules in
     scheduled made journal shut c.args.script (made_as c.args.script) (λ i. refl) (λ i. refl) c.in_ok-logs.logs.items c.into_vec-2.result.items
-    c.in_ok-transcript.transcript c.in_ok-transcript._spent logs copies c.in_ok-transcript.ensures.schedule
+    c.in_ok-transcript.transcript c.in_ok-transcript._spent logs copies c.requires c.in_ok-transcript.ensures.schedule
 
 pub returns-clause-run : goal.returns-clause-run
 returns-clause-run c =
