@@ -1,7 +1,7 @@
 #!/usr/bin/env bash
 # Refuses each allocation of the program in turn: of `plain` on a script of five requests and on one whose table has entries, and of `sim`
-# on one put in a cluster of one replica. It has to end with status 10 and nothing written, or with the right report. Outside the gate: it
-# needs a C compiler, for the allocator that refuses.
+# on one put in a cluster of one replica, without and with a view change. It has to end with status 10 and nothing written, or with the right
+# report. Outside the gate: it needs a C compiler, for the allocator that refuses.
 set -u
 top=$(cd "$(dirname "${BASH_SOURCE[0]}")/.." && pwd)
 work=$(mktemp -d)
@@ -68,7 +68,7 @@ passed=0
 failed=0
 for backend in llvm rattle; do
   program=$("$top/tests/program.sh" "$backend") || exit 1
-  for name in first_steps settlement_day one_put; do
+  for name in first_steps settlement_day one_put timeout_alone; do
     script=$top/examples/$name.script
     word=$(cat "$top/examples/$name.words")
     rm -f "$work/calls"

@@ -32,7 +32,7 @@ trace_with index journal = record {
 
 -- four replicas, and nobody asks
 abbrev pub four_alone : Script
-four_alone = record { sizes = 4 ∷ []; homes = []; requests = []; batch = 8; window = 16; interval = 8; seed = 0; turns = 100000; height = 5 }
+four_alone = record { sizes = 4 ∷ []; homes = []; requests = []; timeouts = []; batch = 8; window = 16; interval = 8; seed = 0; turns = 100000; patience = 10; height = 5 }
 
 abbrev pub broken_run : List ℕ → Transcript
 broken_run sig = record {

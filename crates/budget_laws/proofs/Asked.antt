@@ -31,7 +31,6 @@ use Rattle.heed_laws.specs.Heeding.{IsHeeded, IsWaitingFor, IsAskedFor}
 use Rattle.heed_laws.specs.Resting.{member}
 use Rattle.run_words.specs.Lawful.{AreEach}
 use Rattle.run_words.specs.declared.logs.Transcript.{Transcript}
-use Rattle.script_keys.specs.Requests.{asked}
 use Rattle.script_keys.proofs.Wishes.{asked_in}
 use Rattle.script_keys.proofs.Wishes as wishes
 use Rattle.run_worlds.proofs.Untroubled.{none_faulty}
@@ -43,10 +42,10 @@ use Rattle.run_worlds.specs.Sights.{first_evidence}
 use Rattle.run_worlds.specs.Endings.{IsRunOf}
 use Rattle.run_worlds.proofs.RunLogs.{logs_of}
 use Rattle.run_laws.proofs.Unforged.{all_made}
-use Rattle.plain_laws.specs.Plain.{IsUnspent}
+use Rattle.plain_laws.specs.Plain.{IsUnspent, HasTimedOut}
 use Rattle.plain_laws.proofs.Resting as resting
 use Rattle.plain_laws.proofs.Resting.{IsStill}
-use Rattle.plain_laws.proofs.Stamps.{HasWish, AllUpTo, one_more}
+use Rattle.plain_laws.proofs.Stamps.{HasWish, AllUpTo, one_more, wish_made}
 use Rattle.budget_laws.specs.Opened.{state_at, full_at}
 use Rattle.budget_laws.specs.Proposals.{batch_in, proposals_said, requests_said, stamps_said, IsThrifty}
 use Rattle.budget_laws.proofs.Sums.{no_more, no_fewer, go_last}
@@ -166,6 +165,15 @@ waits_there waiting client stamp w =
     some_first (y ∷ xs) x h = refl
 
 module _ (t : Transcript) (run : IsRunOf t.script t) (one : length t.script.sizes ≡ 1) (some : 0 < size_of (roster_of t.script) 1) where
+  pub member_known : is_replica (roster_of t.script) (member 0) ≡ true
+  member_known =
+      and_both (is_cluster (roster_of t.script) 1) _ (and_both (nat_le 1 1) _ refl (is_at_most 1 (length t.script.sizes) (omega (arith, one))))
+      (is_below 0 (size_of (roster_of t.script) 1) some)
+
+  pub home_is : (c : ℕ) → c < length t.script.homes → slice_index t.script.homes c ≡ 1
+  home_is c lt = let home = wishes.home_of t.script c run.limits lt in omega (arith, home.first, home.last, one)
+
+module _ (t : Transcript) (run : IsRunOf t.script t) (untimed : HasTimedOut t → ⊥) (one : length t.script.sizes ≡ 1) (some : 0 < size_of (roster_of t.script) 1) where
   abbrev r : Roster
   r = roster_of t.script
 
@@ -175,14 +183,6 @@ module _ (t : Transcript) (run : IsRunOf t.script t) (one : length t.script.size
   abbrev l : Local
   l = (state_at t 0).local
 
-  pub member_known : is_replica (roster_of t.script) (member 0) ≡ true
-  member_known =
-      and_both (is_cluster (roster_of t.script) 1) _ (and_both (nat_le 1 1) _ refl (is_at_most 1 (length t.script.sizes) (omega (arith, one))))
-      (is_below 0 (size_of (roster_of t.script) 1) some)
-
-  pub home_is : (c : ℕ) → c < length t.script.homes → slice_index t.script.homes c ≡ 1
-  home_is c lt = let home = wishes.home_of t.script c run.limits lt in omega (arith, home.first, home.last, one)
-
   wish_declared : (w : Wish) → In w t.script.requests → w.client.number < length t.script.homes
   wish_declared w h = (asked_in t.script w run.limits h).declared
 
@@ -191,20 +191,13 @@ module _ (t : Transcript) (run : IsRunOf t.script t) (one : length t.script.size
   said_wish x h =
       let j = of_flat_map (λ (b : List Request). b) x (proposals_said full) h in
       let o = of_proposals full j.from j.is_in in
-      let for_all : IsAskedFor (full_at t 0) (Message.PrePrepare o.proposal) = ((voiced t run one).heeds 0 some).are.asked (Message.PrePrepare o.proposal) o.said in
+      let for_all : IsAskedFor (full_at t 0) (Message.PrePrepare o.proposal) = ((voiced t run untimed one).heeds 0 some).are.asked (Message.PrePrepare o.proposal) o.said in
       let heard = for_all x (subst (In x) (sym o.batch_is) j.inside) in
       let early = heard_before ((world_of t).diary (member 0)) (statements_in (member 0) (state_at t 0).outbox) (Message.Request x) heard in
-      let correct : IsCorrect (world_of t) (member 0) = record { takes_part = member_known; not_faulty = ap (λ (f : Option Fault). is_some f) (none_faulty t.script (member 0)) } in
+      let correct : IsCorrect (world_of t) (member 0) = record { takes_part = member_known t run one some; not_faulty = ap (λ (f : Option Fault). is_some f) (none_faulty t.script (member 0)) } in
       let made : IsMade (world_of t) (Message.Request x) =
       all_made t (logs_of t run) run.lawful.delivered (member 0) correct (Message.Request x) early (Message.Request x) (inl refl) in
-      let m = of_map (λ (w : Wish). asked w []) (record x { sig = [] }) (filter (λ (w : Wish). nat_eq w.client.number x.client.number) t.script.requests) (made refl) in
-      let f = of_filter (λ (w : Wish). nat_eq w.client.number x.client.number) m.from t.script.requests m.is_in in
-      record {
-        wish = m.from;
-        inside = f.0;
-        client_is = same m.from.client.number x.client.number f.1;
-        stamp_is = ap (λ (y : Request). y.stamp) m.same;
-      }
+      wish_made t x made
 
   stamps_upto : (c : ℕ) → GoOn 1 (stamps_said c (full_at t 0)) → length (stamps_said c (full_at t 0)) ≤ count_of c t.script.requests
   stamps_upto c goes = elim (cases_lt 0 (length (stamps_said c (full_at t 0)))) [
@@ -224,14 +217,14 @@ module _ (t : Transcript) (run : IsRunOf t.script t) (one : length t.script.size
   pub requests_few : IsThrifty (roster_of t.script) (state_at t 0).local (full_at t 0) → length (requests_said (full_at t 0)) ≤ length t.script.requests
   requests_few thrift =
       no_more (length t.script.homes) (requests_said (full_at t 0)) t.script.requests said_declared wish_declared
-      (λ c lt. stamps_upto c (thrift.stamps (let k : ClientId = record { number = c } in k) (home_is c lt)))
+      (λ c lt. stamps_upto c (thrift.stamps (let k : ClientId = record { number = c } in k) (home_is t run one some c lt)))
 
   -- where it proposed as many as each client asks, it proposed all
   pub requests_all : ((c : ℕ) → c < length t.script.homes → count_of c t.script.requests ≤ length (stamps_said c (full_at t 0)))
       → length t.script.requests ≤ length (requests_said (full_at t 0))
   requests_all each = no_fewer (length t.script.homes) (requests_said (full_at t 0)) t.script.requests said_declared wish_declared each
 
-module _ (t : Transcript) (run : IsRunOf t.script t) (one : length t.script.sizes ≡ 1) (some : 0 < size_of (roster_of t.script) 1) (still : IsStill t)
+module _ (t : Transcript) (run : IsRunOf t.script t) (untimed : HasTimedOut t → ⊥) (one : length t.script.sizes ≡ 1) (some : 0 < size_of (roster_of t.script) 1) (still : IsStill t)
     (unspent : AreEach IsUnspent (makers_of t.script) t.traces) (clean : first_evidence t ≡ None) where
   abbrev here : Local
   here = (state_at t 0).local
@@ -240,10 +233,10 @@ module _ (t : Transcript) (run : IsRunOf t.script t) (one : length t.script.size
   waits : (c u : ℕ) → c < length t.script.homes → expected (state_at t 0).local c ≤ u → u ≤ count_of c t.script.requests → IsWaitingFor (state_at t 0).local.waiting c u
   waits c u lt from upto =
       let w = all_there [] t.script.requests (run_of_stamps t.script run.limits) (λ client k a b. absurd (omega (arith, a, b))) c u (omega (arith, from)) upto in
-      let a = resting.asked t run still unspent clean one some w.wish w.inside u (omega (arith, from)) (omega (arith, w.stamp_is)) in
+      let a = resting.asked t run untimed still unspent clean one some w.wish w.inside u (omega (arith, from)) (omega (arith, w.stamp_is)) in
       let x : Request = a.request in
       let full_heard = still_heard ((world_of t).diary (member 0)) (statements_in (member 0) (state_at t 0).outbox) (Message.Request x) a.heard in
-      by x w.wish.client a.client_is w.client_is a.stamp_is (((voiced t run one).heeds 0 some).are.local.heeded (Message.Request x) full_heard)
+      by x w.wish.client a.client_is w.client_is a.stamp_is (((voiced t run untimed one).heeds 0 some).are.local.heeded (Message.Request x) full_heard)
     where
       by : (x : Request) (k : ClientId) → x.client ≡ k → k.number ≡ c → x.stamp ≡ u
           → IsHeeded (roster_of t.script) (member 0) here.slots here.kept here.waiting here.last here.checkpoints (Message.Request x) ⊎ In (Message.Request x) []

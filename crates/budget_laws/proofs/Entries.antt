@@ -33,7 +33,7 @@ use Rattle.run_worlds.specs.Scripts.{roster_of, maker_of, script_rules}
 use Rattle.run_worlds.specs.Endings.{IsRunOf}
 use Rattle.run_worlds.proofs.ScriptLimits.{within_limits}
 use Rattle.audit_laws.proofs.Members.{AreDistinct, apart_if, replicas_are_distinct, takes_part}
-use Rattle.plain_laws.specs.Plain.{journal_by}
+use Rattle.plain_laws.specs.Plain.{journal_by, HasTimedOut}
 use Rattle.plain_laws.proofs.Members.{journal_heedful}
 use Rattle.plain_laws.proofs.Plainness.{ArePlainEntries, run_plain}
 use Rattle.run_worlds.proofs.Untroubled.{none_faulty, no_losses}
@@ -292,7 +292,7 @@ written_out : (n opened requests : ℕ)
 written_out n opened requests =
     sum_of n (11 * opened) requests (n * (5 * opened)) ∙ ap (λ k. 11 * opened * n + k * n + n * requests) (mul_comm n (5 * opened))
 
-module _ (t : Transcript) (run : IsRunOf t.script t) (one : length t.script.sizes ≡ 1) where
+module _ (t : Transcript) (run : IsRunOf t.script t) (untimed : HasTimedOut t → ⊥) (one : length t.script.sizes ≡ 1) where
   abbrev opened : ℕ
   opened = length (slots_opened t)
 
@@ -324,17 +324,17 @@ module _ (t : Transcript) (run : IsRunOf t.script t) (one : length t.script.size
 
   -- so each made six moves and five sendings at most for each of these slots
   moved_few : (trace : Trace) → In trace t.traces → number_moved trace.journal ≤ 6 * opened
-  moved_few trace there = of_member number_moved (6 * opened) (moves_few t one run) trace there
+  moved_few trace there = of_member number_moved (6 * opened) (moves_few t one run untimed) trace there
 
   sent_few : (trace : Trace) → In trace t.traces → number_sent trace.journal ≤ 5 * opened
-  sent_few trace there = of_member number_sent (5 * opened) (sendings_few t one run) trace there
+  sent_few trace there = of_member number_sent (5 * opened) (sendings_few t one run untimed) trace there
 
   -- each put five times as many parcels to a replica at most as the primary opened slots
   put_few : (to : ReplicaId) (trace : Trace) → In trace t.traces → parcels_counted always to trace.id trace.parcels ≤ 5 * opened
   put_few to trace there =
       let own = here trace there in
       let few = parcels_few (maker_of t.script trace.id) (within_limits t.script run.limits) one (takes_part t.script trace.id own.listed)
-      (none_faulty t.script trace.id) (no_losses t.script) to trace.journal own.kept.replays own.kept.sound (run_plain t run one trace there) in
+      (none_faulty t.script trace.id) (no_losses t.script) to trace.journal own.kept.replays own.kept.sound (run_plain t run untimed one trace there) in
       omega (arith, few, ap (parcels_counted always to trace.id) own.kept.parcels, sent_few trace there)
 
   -- and heard no more than was put to it
@@ -354,9 +354,9 @@ module _ (t : Transcript) (run : IsRunOf t.script t) (one : length t.script.size
   traces_many = as_many t.script (replicas_of t.script) t.traces run.lawful.kept ∙ members_many t.script.sizes one
 
 pub few_entries : EntriesLaw
-few_entries t one run =
+few_entries t one run untimed =
     let opened = length (slots_opened t) in
     let requests = length t.script.requests in
-    let all = sum_few (λ (x : Trace). length x.journal) (11 * opened + (requests + length t.traces * (5 * opened))) t.traces (entries_few t run one) in
-    subst (λ n. sum_by (λ (x : Trace). length x.journal) t.traces ≤ 11 * opened * n + 5 * opened * n * n + n * requests) (traces_many t run one)
+    let all = sum_few (λ (x : Trace). length x.journal) (11 * opened + (requests + length t.traces * (5 * opened))) t.traces (entries_few t run untimed one) in
+    subst (λ n. sum_by (λ (x : Trace). length x.journal) t.traces ≤ 11 * opened * n + 5 * opened * n * n + n * requests) (traces_many t run untimed one)
     (subst (λ k. sum_by (λ (x : Trace). length x.journal) t.traces ≤ k) (written_out (length t.traces) opened requests) all)

@@ -1,5 +1,5 @@
 -- The primary of a run of one cluster, by its journal: its state and diary, and what an entry more adds to what it proposed.
-use Rattle.std.proofs.Common.{◌≡◌, ℕ, zero, suc, ◌<◌, ◌≤◌, Bool, true, false, cond, ◌&&◌, ◌||◌, nat_le, List, [], ◌∷◌, ◌++◌, map, take, length, ◌⊎◌, inl, inr, refl, sym, ap, subst, ◌∙◌, arith}
+use Rattle.std.proofs.Common.{◌≡◌, ℕ, zero, suc, ◌<◌, ◌≤◌, Bool, true, false, ◌&&◌, ◌||◌, nat_le, List, [], ◌∷◌, ◌++◌, map, take, length, ◌⊎◌, inl, inr, refl, sym, ap, subst, ◌∙◌, arith}
 use Rattle.std.specs.Prelude.{slice_index}
 use Rattle.std.specs.List.{range_with_len}
 use Rattle.fab_base.specs.Limits.{Roster}
@@ -17,49 +17,21 @@ use Rattle.fab_machine.specs.Diaries.{state_from, state_of, diary_after, diary_o
 use Rattle.fab_machine.specs.Diaries as events
 use Rattle.fault_script.specs.declared.scripts.Script.{Script}
 use Rattle.heed_laws.specs.Resting.{member}
-use Rattle.run_words.specs.Keyed.{is_same, of}
 use Rattle.run_words.specs.Journal.{Maker, event_of, state, diary, moves, IsNext, IsMade as IsReplayed}
-use Rattle.run_words.specs.Runs.{Run, trace_in}
 use Rattle.run_words.specs.declared.movers.Mover.{Mover}
 use Rattle.run_words.specs.declared.logs.Entry.{Entry}
-use Rattle.run_words.proofs.Keys.{same_is, same_self}
 use Rattle.run_words.proofs.Replays.{state_more, same_diary}
 use Rattle.script_keys.specs.Keys.{replicas_from}
 use Rattle.run_worlds.specs.Scripts.{maker_of}
-use Rattle.run_worlds.specs.Worlds.{diary_in}
-use Rattle.plain_laws.specs.Plain.{journal_by}
 use Rattle.budget_laws.proofs.Moments.{IsMoment, IsStepOf}
 use Rattle.heed_laws.specs.Heeding.{IsPlain}
 use Rattle.plain_laws.proofs.Members.{plain_events}
 use Rattle.plain_laws.proofs.Plainness.{ArePlainEntries}
 use Rattle.fab_rules.proofs.Lists.{in_append_left, in_append_right}
-use Rattle.budget_laws.proofs.Putting.{proposed_by, silent, proposes, AllOwn, own_kept, none_known}
+use Rattle.plain_laws.proofs.Members.{none_other}
+use Rattle.budget_laws.proofs.Putting.{proposed_by, silent, proposes, AllOwn, own_kept}
 
--- ---- the journal of a replica in the transcript of a run
-
-pub journal_at : (script : Script) (run : Run) (ids : List ReplicaId) (i : ReplicaId) → In i ids
-    → journal_by i (map (trace_in run) (map (maker_of script) ids)) ≡ of i run.done
-journal_at script run [] i h = absurd h
-journal_at script run (j ∷ ids) i h = go (is_same i j) refl (λ k. journal_at script run ids i k) h
-  where
-    go : (b : Bool) → is_same i j ≡ b → (In i ids → journal_by i (map (trace_in run) (map (maker_of script) ids)) ≡ of i run.done) → In i (j ∷ ids)
-        → cond b (of j run.done) (journal_by i (map (trace_in run) (map (maker_of script) ids))) ≡ of i run.done
-    go true e later k = ap (λ q. of q run.done) (sym (same_is i j e))
-    go false e later (inl q) = absurd (let self = subst (λ k. is_same i k ≡ true) (sym q) (same_self i) in cc)
-    go false e later (inr k) = later k
-
-pub diary_at : (script : Script) (run : Run) (ids : List ReplicaId) (i : ReplicaId) → In i ids
-    → diary_in (map (maker_of script) ids) (map (trace_in run) (map (maker_of script) ids)) i ≡ diary (maker_of script i) (of i run.done)
-diary_at script run [] i h = absurd h
-diary_at script run (j ∷ ids) i h = go (is_same i j) refl (λ k. diary_at script run ids i k) h
-  where
-    go : (b : Bool) → is_same i j ≡ b
-        → (In i ids → diary_in (map (maker_of script) ids) (map (trace_in run) (map (maker_of script) ids)) i ≡ diary (maker_of script i) (of i run.done)) → In i (j ∷ ids)
-        → cond b (diary (maker_of script j) (of j run.done)) (diary_in (map (maker_of script) ids) (map (trace_in run) (map (maker_of script) ids)) i)
-        ≡ diary (maker_of script i) (of i run.done)
-    go true e later k = ap (λ q. diary (maker_of script q) (of q run.done)) (sym (same_is i j e))
-    go false e later (inl q) = absurd (let self = subst (λ k. is_same i k ≡ true) (sym q) (same_self i) in cc)
-    go false e later (inr k) = later k
+-- ---- the first replica
 
 -- the first replica of a cluster that has one
 pub record HasFirst (script : Script) : Type 0 where
@@ -86,7 +58,7 @@ map_more : (journal : List Entry) (e : Entry) → map event_of (journal ++ e ∷
 map_more [] e = refl
 map_more (x ∷ journal) e = ap (λ l. event_of x ∷ l) (map_more journal e)
 
-diary_one : (m : Maker) (journal : List Entry) (e : Entry) → IsReplayed m journal → IsReplayed m (journal ++ e ∷ [])
+pub diary_one : (m : Maker) (journal : List Entry) (e : Entry) → IsReplayed m journal → IsReplayed m (journal ++ e ∷ [])
     → diary m (journal ++ e ∷ []) ≡ diary_after m.id (state m journal) (event_of e) (step m.roster m.id (state m journal) (event_of e)).state (diary m journal)
 unfolding state
 diary_one m journal e made now =
@@ -151,7 +123,7 @@ module _ (Still : Type 0) (m : Maker) (journal : List Entry) (made : IsReplayed 
       ∙ ap (proposed_by m.id (step m.roster m.id (state m journal) (event_of e)).state) (diary_one m journal e made now)
 
   none_else : knows_others m.id.cluster (state m journal).rounds.certificates (state m journal).local.next ≡ false
-  none_else = none_known m.id (state m journal).rounds.certificates (state m journal).local.next (all_own m journal plain)
+  none_else = none_other m.id.cluster (state m journal).rounds.certificates (state m journal).local.next (all_own m journal plain)
 
   one_entry : (e : Entry) → IsPlain (event_of e) → IsReplayed m (journal ++ e ∷ []) → IsNext m journal e → IsMoment Still e
       → (batches_by m (journal ++ e ∷ []) ≡ batches_by m journal) ⊎ HasBatch Still m journal (journal ++ e ∷ [])

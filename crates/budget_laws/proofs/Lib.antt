@@ -10,6 +10,5 @@ pub mod Putting
 pub mod Moments
 pub mod Journals
 pub mod Asked
-pub mod Stillness
 pub mod Rounds
 pub mod Budgets

@@ -1,10 +1,8 @@
 -- What is proposed by an event: a Batch or a Nudge that makes an entry proposes one batch, and no other event proposes. No replica forms a
 -- certificate of another cluster.
 use Rattle.std.proofs.Common.{◌≡◌, ℕ, zero, suc, ◌%◌, nat_eq, nat_lt, Bool, true, false, cond, not, ◌&&◌, ◌||◌, List, [], ◌∷◌, ◌++◌, length, take, drop, append_assoc, Option, Some, None, Result, Ok, Err, inl, inr, refl, sym, ap, subst, ◌∙◌}
-use Rattle.std.specs.List.{list_any}
 use Rattle.std.proofs.lemmas.List.{append-nil}
 use Rattle.fab_base.specs.Limits.{Roster}
-use Rattle.fab_base.proofs.Tests.{are_same}
 use Rattle.fab_base.specs.Roster.{size_of}
 use Rattle.fab_base.specs.declared.limits.TheConstants.{GREATEST_NUMBER}
 use Rattle.fab_base.specs.declared.ids.ReplicaId.{ReplicaId}
@@ -366,16 +364,3 @@ own_kept r me s Event.Execute plain h = execute_own r me s (next_round (length r
 own_kept r me s Event.Checkpoint plain h =
     outs_own r me (record s { local = (checkpoint r me s.local).local }) (checkpoint r me s.local).outs (marked_outs r me s.local s.local.due) h
 own_kept r me s Event.Timeout plain h = absurd plain
-
--- so none of another cluster is known
-pub none_known : (me : ReplicaId) (certificates : List CommitCert) (round : ℕ) → ((k : CommitCert) → In k certificates → k.cluster ≡ me.cluster)
-    → knows_others me.cluster certificates round ≡ false
-none_known me [] round h = refl
-none_known me (k ∷ rest) round h =
-    both (nat_eq (round_of k) round) (nat_eq k.cluster me.cluster) (are_same k.cluster me.cluster (h k (inl refl))) (none_known me rest round (λ c i. h c (inr i)))
-  where
-    both : (a b : Bool) → b ≡ true → list_any (λ c. nat_eq (round_of c) round && not (nat_eq c.cluster me.cluster)) rest ≡ false
-        → ((a && not b) || list_any (λ c. nat_eq (round_of c) round && not (nat_eq c.cluster me.cluster)) rest) ≡ false
-    both true true p q = q
-    both false b p q = q
-    both true false p q = absurd cc

@@ -1,6 +1,6 @@
 -- How many slots the primary of the one run of a script opens: each batch is full, but for one at a quiet moment at which all that the script
 -- asks is proposed.
-use Rattle.std.proofs.Common.{◌≡◌, ℕ, zero, suc, ◌+◌, ◌*◌, ◌/◌, ◌^◌, ◌<◌, ◌≤◌, Bool, true, false, cond, ◌||◌, nat_eq, nat_le, nat_lt, List, [], ◌∷◌, ◌++◌, filter, take, length, None, ◌⊎◌, inl, inr, refl, sym, ap, subst, ◌∙◌, arith, length-append, append-nil}
+use Rattle.std.proofs.Common.{◌≡◌, ℕ, zero, suc, ◌+◌, ◌*◌, ◌/◌, ◌^◌, ◌<◌, ◌≤◌, Bool, true, false, cond, ◌||◌, nat_eq, nat_le, nat_lt, List, [], ◌∷◌, ◌++◌, filter, take, length, ◌⊎◌, inl, inr, refl, sym, ap, subst, ◌∙◌, arith, length-append, append-nil}
 use Rattle.std.specs.Prelude.{slice_index}
 use Rattle.std.specs.List.{flat_map, sum_by, range_with_len}
 use Rattle.std.proofs.Math.Nat.{add-mul, one-mul, zero-mul, le-div_iff_mul-le}
@@ -13,7 +13,7 @@ use Rattle.fab_base.specs.declared.ids.ClientId.{ClientId}
 use Rattle.fab_base.specs.declared.ids.Who.{Who}
 use Rattle.fab_base.specs.declared.ids.ReplicaId.{ReplicaId}
 use Rattle.fab_base.specs.declared.limits.TheConstants.{MOST_REQUESTS, MOST_SLOTS}
-use Rattle.fault_script.specs.declared.settings.TheConstants.{MOST_TURNS}
+use Rattle.fault_script.specs.declared.settings.TheConstants.{MOST_TURNS, MOST_PATIENCE}
 use Rattle.lms_tree.specs.Heights.{leaf_count}
 use Rattle.fab_base.specs.declared.requests.Request.{Request}
 use Rattle.fab_base.proofs.Tests.{and_left, and_right, at_most, same, are_same}
@@ -26,7 +26,7 @@ use Rattle.fault_script.specs.declared.scripts.Script.{Script}
 use Rattle.fault_script.specs.declared.scripts.Wish.{Wish}
 use Rattle.fault_script.specs.Fields.{is_within}
 use Rattle.fault_script.specs.Settings.{are_settings, is_height}
-use Rattle.fault_script.specs.Scripts.{are_sizes, are_homes, are_wishes, count_of, keeps_limits}
+use Rattle.fault_script.specs.Scripts.{are_sizes, are_homes, are_wishes, are_timeouts, count_of, keeps_limits}
 use Rattle.world_laws.specs.World.{NoClash}
 use Rattle.heed_laws.specs.Resting.{member}
 use Rattle.run_words.specs.Journal.{Maker, state, diary, IsMade as IsReplayed}
@@ -34,33 +34,26 @@ use Rattle.run_words.specs.Runs.{Rules, journal_in, after}
 use Rattle.run_words.specs.Lawful.{AreEach}
 use Rattle.run_words.specs.declared.logs.Entry.{Entry}
 use Rattle.run_words.specs.declared.logs.Transcript.{Transcript}
-use Rattle.run_words.proofs.Counts.{IsIn}
-use Rattle.run_words.proofs.Keeping.{AreStill, IsWell, after_well}
-use Rattle.run_words.proofs.Quieting.{heard_of, sent_of}
+use Rattle.run_words.proofs.Keeping.{AreStill, IsWell, is_in, after_well}
 use Rattle.run_words.proofs.Replays.{fresh_is}
 use Rattle.script_keys.specs.Keys.{leaves_of, replicas_of, height_of}
 use Rattle.script_keys.proofs.Wishes.{asked_in}
-use Rattle.run_worlds.proofs.Untroubled.{fine_timeouts}
 use Rattle.run_worlds.specs.Scripts.{roster_of, maker_of, makers_of, script_rules}
 use Rattle.run_worlds.specs.Worlds.{world_of}
-use Rattle.run_worlds.specs.Sights.{first_evidence}
 use Rattle.run_worlds.specs.Endings.{IsRunOf}
-use Rattle.run_worlds.proofs.RunLogs.{logs_of}
-use Rattle.audit_laws.proofs.Evidence.{no_evidence}
 use Rattle.audit_laws.proofs.Members.{is_listed}
 use Rattle.audit_laws.proofs.Sanity.{sane}
-use Rattle.run_laws.proofs.Unforged.{nothing_forged}
-use Rattle.plain_laws.specs.Plain.{IsUnspent}
-use Rattle.plain_laws.proofs.Ends.{spent_or_not}
-use Rattle.plain_laws.proofs.Resting.{IsStill}
+use Rattle.plain_laws.specs.Plain.{IsUnspent, HasTimedOut}
+use Rattle.plain_laws.proofs.Prefixes.{at_step, run_of, clean_prefix, still_prefix, journal_there, diary_there, no_clash_before}
+use Rattle.plain_laws.proofs.Timely.{spent_or_not, untimed_told, timely_step}
+use Rattle.plain_laws.proofs.Untimed.{start_untimed}
 use Rattle.budget_laws.specs.Budgets.{requests_at, rounds_of}
 use Rattle.budget_laws.specs.Opened.{state_at, full_at, slots_opened}
 use Rattle.budget_laws.specs.Proposals.{proposals_said, requests_said, stamps_said, IsThrifty}
 use Rattle.budget_laws.proofs.Asked.{stamps_among, member_known, home_is, requests_few, requests_all, last_eligible}
-use Rattle.budget_laws.proofs.Journals.{journal_at, diary_at, first_of_all, batches_by, HasBatch, one_step}
+use Rattle.budget_laws.proofs.Journals.{first_of_all, batches_by, HasBatch, one_step}
 use Rattle.budget_laws.proofs.Moments.{step_of}
-use Rattle.budget_laws.proofs.Prefixes.{plain_journal, at_step, run_of, no_clash_before, thrifty}
-use Rattle.budget_laws.proofs.Stillness.{idle_then}
+use Rattle.budget_laws.proofs.Prefixes.{IsClear, plain_journal, thrifty}
 use Rattle.budget_laws.proofs.Sums.{go_below, go_last}
 use Rattle.budget_laws.proofs.Voicing.{next_opened, spent_opened}
 
@@ -92,10 +85,11 @@ few_batches (suc m) b l q (inr h) few some =
 
 -- ---- the figures of a script
 
-settings : (script : Script) → keeps_limits script ≡ true → are_settings script.batch script.window script.interval script.seed script.turns script.height ≡ true
+settings : (script : Script) → keeps_limits script ≡ true → are_settings script.batch script.window script.interval script.seed script.turns script.patience script.height ≡ true
 settings script limits =
-    and_right (are_wishes (length script.homes) script.requests) _
-    (and_right (are_homes (length script.sizes) script.homes) _ (and_right (are_sizes script.sizes) _ limits))
+    and_right (are_timeouts script.sizes script.timeouts) _
+    (and_right (are_wishes (length script.homes) script.requests) _
+    (and_right (are_homes (length script.sizes) script.homes) _ (and_right (are_sizes script.sizes) _ limits)))
 
 some_batch : (script : Script) → keeps_limits script ≡ true → 1 ≤ script.batch
 some_batch script limits = at_most 1 script.batch (and_left (nat_le 1 script.batch) _ (and_left (is_within 1 MOST_REQUESTS script.batch) _ (settings script limits)))
@@ -120,11 +114,12 @@ height_is script limits = by (nat_eq script.height 5) refl (nat_eq script.height
   where
     test : is_height script.height ≡ true
     test =
-        and_right (is_within 1 MOST_TURNS script.turns) _
+        and_right (nat_le script.patience MOST_PATIENCE) _
+        (and_right (is_within 1 MOST_TURNS script.turns) _
         (and_right (nat_lt script.seed (2 ^ 64)) _
         (and_right (is_within 1 script.window script.interval) _
         (and_right (is_within 1 MOST_SLOTS script.window) _
-        (and_right (is_within 1 MOST_REQUESTS script.batch) _ (settings script limits)))))
+        (and_right (is_within 1 MOST_REQUESTS script.batch) _ (settings script limits))))))
 
     by : (a : Bool) → nat_eq script.height 5 ≡ a → (b : Bool) → nat_eq script.height 10 ≡ b → (a || b) ≡ true → (script.height ≡ 5) ⊎ (script.height ≡ 10)
     by true e b f h = inl (same script.height 5 e)
@@ -185,7 +180,7 @@ filled_last script batches now b e some few whole h =
     (sym count) (sym requests) more
 
 module _ (script : Script) (limits : keeps_limits script ≡ true) (one : length script.sizes ≡ 1) (some : 0 < size_of (roster_of script) 1)
-    (fits : 5 * rounds_of script + 8 ≤ 2 ^ script.height) where
+    (lines : script.timeouts ≡ []) (fits : 5 * rounds_of script + 8 ≤ 2 ^ script.height) where
   abbrev rules : Rules
   rules = script_rules script
 
@@ -204,67 +199,59 @@ module _ (script : Script) (limits : keeps_limits script ≡ true) (one : length
   run : (n : ℕ) → IsRunOf script (at_step script n)
   run n = run_of script n limits
 
-  wastes_nothing : (n : ℕ) → NoClash (world_of (at_step script n)) → IsThrifty (roster_of script) (state_at (at_step script n) 0).local (full_at (at_step script n) 0)
+  wastes_nothing : (n : ℕ) → IsClear script n → IsThrifty (roster_of script) (state_at (at_step script n) 0).local (full_at (at_step script n) 0)
   wastes_nothing n none = thrifty script n limits one some none
 
   listed : In (member 0) (replicas_of script)
   listed = is_listed script (member 0) (member_known (t 0) (run 0) one some)
 
   state_is : (n : ℕ) → state_at (at_step script n) 0 ≡ state (maker_of script (member 0)) (journal n)
-  state_is n = ap (state primary) (journal_at script (after rules n) (replicas_of script) (member 0) listed)
+  state_is n = ap (state primary) (journal_there script (after rules n) (replicas_of script) (member 0) listed)
 
   batches_are : (n : ℕ) → proposals_said (full_at (at_step script n) 0) ≡ batches_by (maker_of script (member 0)) (journal n)
   batches_are n =
       ap (λ s. proposals_said (full_of (member 0) s ((world_of (t n)).diary (member 0)))) (state_is n)
-      ∙ ap (λ d. proposals_said (full_of (member 0) (state primary (journal n)) d)) (diary_at script (after rules n) (replicas_of script) (member 0) listed)
+      ∙ ap (λ d. proposals_said (full_of (member 0) (state primary (journal n)) d)) (diary_there script (after rules n) (replicas_of script) (member 0) listed)
 
   well : (n : ℕ) → IsWell (script_rules script) (after (script_rules script) n)
-  well n = after_well rules n (sane script limits (fine_timeouts script))
-
-  same_in : (m : Maker) (makers : List Maker) → In m makers → IsIn m makers
-  same_in m [] h = h
-  same_in m (x ∷ rest) (inl e) = inl (sym e)
-  same_in m (x ∷ rest) (inr h) = inr (same_in m rest h)
+  well n = after_well rules n (sane script limits)
 
   replays : (n : ℕ) → IsReplayed (maker_of script (member 0)) (journal n)
-  replays n = ((well n).fair.logs primary (same_in primary (makers_of script) (in_map (maker_of script) (member 0) (replicas_of script) listed))).0
+  replays n = ((well n).fair.logs primary (is_in primary (makers_of script) (in_map (maker_of script) (member 0) (replicas_of script) listed))).0
 
-  stepped : (n : ℕ) → (batches_by (maker_of script (member 0)) (journal (suc n)) ≡ batches_by (maker_of script (member 0)) (journal n))
+  stepped : (n : ℕ) → (HasTimedOut (at_step script (suc n)) → ⊥) → (batches_by (maker_of script (member 0)) (journal (suc n)) ≡ batches_by (maker_of script (member 0)) (journal n))
       ⊎ HasBatch (AreStill (script_rules script) (after (script_rules script) n)) (maker_of script (member 0)) (journal n) (journal (suc n))
-  stepped n =
+  stepped n untimed =
       let first = first_of_all script some in
-      one_step (AreStill rules (after rules n)) primary (journal n) (journal (suc n)) (replays n) (replays (suc n)) (plain_journal script limits one some (suc n))
-      (step_of rules primary first.others first.makers_are (sane script limits (fine_timeouts script)) n)
+      one_step (AreStill rules (after rules n)) primary (journal n) (journal (suc n)) (replays n) (replays (suc n)) (plain_journal script limits one some (suc n) untimed)
+      (step_of rules primary first.others first.makers_are (sane script limits) n)
 
-  few : (n : ℕ) → NoClash (world_of (at_step script n)) → length (requests_said (full_at (at_step script n) 0)) ≤ length script.requests
-  few n none = requests_few (t n) (run n) one some (wastes_nothing n none)
+  few : (n : ℕ) → IsClear script n → length (requests_said (full_at (at_step script n) 0)) ≤ length script.requests
+  few n none = requests_few (t n) (run n) none.1 one some (wastes_nothing n none)
 
   -- the slots that were opened
-  pub opened_few : (n : ℕ) → NoClash (world_of (at_step script n)) → AreFilled script (proposals_said (full_at (at_step script n) 0))
+  pub opened_few : (n : ℕ) → IsClear script n → AreFilled script (proposals_said (full_at (at_step script n) 0))
       → length (slots_opened (at_step script n)) ≤ rounds_of script
   opened_few n none filled =
       let bound = few_batches (length (batches n)) script.batch (length (requests_said (full_at (t n) 0))) (length script.requests) filled (few n none) (some_batch script limits) in
       let next_is = (wastes_nothing n none).next_is in
       let rounds = rounds_are script one (λ w h. home_is (t n) (run n) one some w.client.number (asked_in script w limits h).declared) in
-      omega (arith, bound, next_is, next_opened (t n) one (run n) some, rounds)
+      omega (arith, bound, next_is, next_opened (t n) one (run n) none.1 some, rounds)
 
-  unspent : (n : ℕ) → NoClash (world_of (at_step script n)) → AreFilled script (proposals_said (full_at (at_step script n) 0))
+  unspent : (n : ℕ) → IsClear script n → AreFilled script (proposals_said (full_at (at_step script n) 0))
       → AreEach IsUnspent (makers_of script) (at_step script n).traces
   unspent n none filled = elim (spent_or_not (t n) (replicas_of script) (t n).traces (λ y k. k) (run n).lawful.kept) [
     | inl fine ↦ fine
-    | inr spent ↦ absurd (let upto = spent_opened (t n) (omega (arith, one)) (run n) spent in
+    | inr spent ↦ absurd (let upto = spent_opened (t n) (omega (arith, one)) (run n) none.1 spent in
         omega (arith, upto, opened_few n none filled, leaves_are script spent.trace.id limits, fits))
   ]
 
-  clean : (n : ℕ) → NoClash (world_of (at_step script n)) → first_evidence (at_step script n) ≡ None
-  clean n none = no_evidence (t n) (logs_of (t n) (run n)) (nothing_forged script (t n) (run n)) none
-
   -- where all that is eligible is proposed at a quiet moment, all that the script asks was proposed
-  proposes_all : (n : ℕ) → NoClash (world_of (at_step script n)) → NoClash (world_of (at_step script (suc n))) → AreFilled script (proposals_said (full_at (at_step script n) 0))
+  proposes_all : (n : ℕ) → IsClear script n → IsClear script (suc n) → AreFilled script (proposals_said (full_at (at_step script n) 0))
       → AreStill (script_rules script) (after (script_rules script) n)
       → proposals_said (full_at (at_step script (suc n)) 0) ≡ proposals_said (full_at (at_step script n) 0) ++ eligible (state_at (at_step script n) 0).local ∷ []
       → length script.requests ≤ length (requests_said (full_at (at_step script (suc n)) 0))
-  proposes_all n none later filled still grown = requests_all (t (suc n)) (run (suc n)) one some each
+  proposes_all n none later filled still grown = requests_all (t (suc n)) (run (suc n)) later.1 one some each
     where
       among : (x : Request) → In x (requests_said (full_at (at_step script n) 0)) ⊎ In x (eligible (state_at (at_step script n) 0).local)
           → In x (requests_said (full_at (at_step script (suc n)) 0))
@@ -286,20 +273,15 @@ module _ (script : Script) (limits : keeps_limits script ≡ true) (one : length
                   let there = stamps_among c (length before) (requests_said (full_at (t n) 0)) (requests_said (full_at (t (suc n)) 0)) (λ x h. among x (inl h)) last in
                   omega (arith, done, next_is, go_below 1 now (length before) goes_on there))
             ]
-            | inr left ↦ (let quiet : IsStill (at_step script n) =
-                record {
-                  all_heard = heard_of rules (after rules n) (sane script limits (fine_timeouts script)).apart (well n).fair still;
-                  sent = sent_of rules (after rules n) still;
-                  idle = idle_then rules (after rules n) still;
-                } in
-                let last = last_eligible (t n) (run n) one some quiet (unspent n none filled) (clean n none) c lt left in
+            | inr left ↦ (let quiet = still_prefix script n limits still in
+                let last = last_eligible (t n) (run n) none.1 one some quiet (unspent n none filled) (clean_prefix script n limits none.0) c lt left in
                 let there = stamps_among c (count_of c script.requests) (eligible (state_at (t n) 0).local) (requests_said (full_at (t (suc n)) 0)) (λ x h. among x (inr h)) last in
                 omega (arith, go_below 1 now (count_of c script.requests) goes_on there))
           ]
 
-  filled_step : (n : ℕ) → NoClash (world_of (at_step script n)) → NoClash (world_of (at_step script (suc n))) → AreFilled script (proposals_said (full_at (at_step script n) 0))
+  filled_step : (n : ℕ) → IsClear script n → IsClear script (suc n) → AreFilled script (proposals_said (full_at (at_step script n) 0))
       → AreFilled script (proposals_said (full_at (at_step script (suc n)) 0))
-  filled_step n none later filled = elim (stepped n) [
+  filled_step n none later filled = elim (stepped n later.1) [
     | inl same_batches ↦ subst (AreFilled script) (sym (batches_are (suc n) ∙ (same_batches ∙ sym (batches_are n)))) filled
     | inr h ↦ (let l : Local = (state primary (journal n)).local in
         let grown : batches (suc n) ≡ batches n ++ take script.batch (eligible (state primary (journal n)).local) ∷ [] =
@@ -329,13 +311,27 @@ module _ (script : Script) (limits : keeps_limits script ≡ true) (one : length
             (proposes_all n none later filled h.0 here) filled)
       ]
 
-  pub filled_at : (n : ℕ) → NoClash (world_of (at_step script n)) → AreFilled script (proposals_said (full_at (at_step script n) 0))
-  filled_at zero none = subst (AreFilled script) (sym (batches_are 0 ∙ none_yet primary)) (inl (omega (arith, zero-mul script.batch)))
-  filled_at (suc n) later =
-      let next_one : n + 1 ≡ suc n = omega arith in
-      let none = no_clash_before script n 1 limits (subst (λ k. NoClash (world_of (at_step script k))) (sym next_one) later) in
-      filled_step n none later (filled_at n none)
+  -- so nobody times out: before the primary opens too many slots no key is used up
+  filled_at : (n : ℕ) → NoClash (world_of (at_step script n)) → (HasTimedOut (at_step script n) → ⊥) × AreFilled script (proposals_said (full_at (at_step script n) 0))
+  filled_at zero none = (
+    untimed_told script 0 (start_untimed (script_rules script)),
+    subst (AreFilled script) (sym (batches_are 0 ∙ none_yet primary)) (inl (omega (arith, zero-mul script.batch))),
+  )
+  filled_at (suc n) later = by (filled_at n before)
+    where
+      before : NoClash (world_of (at_step script n))
+      before = no_clash_before script n 1 limits (subst (λ k. NoClash (world_of (at_step script k))) (let e : suc n ≡ n + 1 = omega arith in e) later)
+
+      by : (HasTimedOut (at_step script n) → ⊥) × AreFilled script (proposals_said (full_at (at_step script n) 0))
+          → (HasTimedOut (at_step script (suc n)) → ⊥) × AreFilled script (proposals_said (full_at (at_step script (suc n)) 0))
+      by h =
+          let clear : IsClear script n = (before, h.0) in
+          let untimed = timely_step script limits one lines n h.0 (unspent n clear h.1) before in
+          (untimed, filled_step n clear (later, untimed) h.1)
+
+  pub untimed_at : (n : ℕ) → NoClash (world_of (at_step script n)) → HasTimedOut (at_step script n) → ⊥
+  untimed_at n none = (filled_at n none).0
 
   -- so the primary opens no more slots than there are rounds
   pub rounds_few : (n : ℕ) → NoClash (world_of (at_step script n)) → length (slots_opened (at_step script n)) ≤ rounds_of script
-  rounds_few n none = opened_few n none (filled_at n none)
+  rounds_few n none = let h = filled_at n none in opened_few n (none, h.0) h.1

@@ -1,5 +1,5 @@
 -- Which keys and which limit of entries are enough for a script (ours).
-use Rattle.std.specs.Prelude.{◌≡◌, ℕ, ◌+◌, ◌*◌, ◌/◌, ◌^◌, ◌≤◌, ◌⊎◌, true, Bool, length, sum, nat_eq, slice_index}
+use Rattle.std.specs.Prelude.{◌≡◌, ℕ, ◌+◌, ◌*◌, ◌/◌, ◌^◌, ◌≤◌, ◌⊎◌, true, Bool, [], length, sum, nat_eq, slice_index}
 use Rattle.std.specs.List.{sum_by, count_by, range_with_len}
 use Rattle.fault_script.specs.declared.scripts.Script.{Script}
 use Rattle.fault_script.specs.Scripts.{keeps_limits}
@@ -26,7 +26,8 @@ pub record FitsScript (script : Script) : Type 0 where
   pub leaves : 5 * rounds_of script + 8 ≤ 2 ^ script.height
   pub turns : 32 * rounds_of script * replicas_in script * replicas_in script + replicas_in script * length script.requests ≤ script.turns
 
--- the one run of a script of one cluster that fits ends done, or two batches have one digest
+-- the one run of a script of one cluster without timeout lines that fits ends done, or two batches have one digest, however much patience the
+-- script has
 abbrev pub BudgetLaw : Type 0
-BudgetLaw = (script : Script) (t : Transcript) (spent : Bool) (end : End) → length script.sizes ≤ 1 → keeps_limits script ≡ true → FitsScript script
-    → IsSchedule (script_rules script) t spent → IsEnd t end → (end ≡ End.Done) ⊎ IsClash end
+BudgetLaw = (script : Script) (t : Transcript) (spent : Bool) (end : End) → length script.sizes ≤ 1 → keeps_limits script ≡ true → script.timeouts ≡ []
+    → FitsScript script → IsSchedule (script_rules script) t spent → IsEnd t end → (end ≡ End.Done) ⊎ IsClash end

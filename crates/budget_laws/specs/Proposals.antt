@@ -17,6 +17,7 @@ use Rattle.run_words.specs.Runs.{after, transcript}
 use Rattle.run_words.specs.declared.logs.Transcript.{Transcript}
 use Rattle.run_worlds.specs.Scripts.{roster_of, script_rules}
 use Rattle.run_worlds.specs.Worlds.{world_of}
+use Rattle.plain_laws.specs.Plain.{HasTimedOut}
 use Rattle.budget_laws.specs.Opened.{state_at, full_at}
 
 abbrev pub batch_in : Message → List (List Request)
@@ -49,9 +50,9 @@ pub record IsThrifty (r : Roster) (l : Local) (full : List Entry) : Type 0 where
 abbrev pub run_after : Script → ℕ → Transcript
 run_after script n = transcript (script_rules script) (after (script_rules script) n)
 
--- so it is of the first member, which is the primary, after each number of steps of the one run of a script of one cluster, as long as no
--- two batches share a digest
+-- so it is of the first member, which is the primary, after each number of steps of the one run of a script of one cluster, as long as nobody
+-- timed out and no two batches share a digest
 abbrev pub ThriftyLaw : Type 0
 ThriftyLaw = (script : Script) (n : ℕ) → keeps_limits script ≡ true → length script.sizes ≡ 1 → 0 < size_of (roster_of script) 1
-    → NoClash (world_of (run_after script n))
+    → ¬ HasTimedOut (run_after script n) → NoClash (world_of (run_after script n))
     → IsThrifty (roster_of script) (state_at (run_after script n) 0).local (full_at (run_after script n) 0)

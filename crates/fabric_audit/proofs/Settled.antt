@@ -9,7 +9,6 @@ use Rattle.run_words.specs.Lawful.{AreEach, Kept, IsAllHeard, IsIdle, IsQuiet, t
 use Rattle.run_words.specs.declared.movers.Mover.{Mover}
 use Rattle.run_words.specs.declared.logs.Trace.{Trace}
 use Rattle.run_words.specs.declared.logs.Transcript.{Transcript}
-use Rattle.run_worlds.specs.Troubles.{patience_of}
 use Rattle.run_worlds.specs.Scripts.{makers_of, script_rules}
 use Rattle.run_worlds.specs.Endings.{IsRunOf, IsSettled}
 use Rattle.fabric_audit.specs.Counts.{all_taken, all_put, are_tried}
@@ -41,17 +40,17 @@ IsCalm timeouts m t = timeouts ≡ true → IsIdle Mover.Timeout m t
 -- ---- patience
 
 -- where no patience is left, it was used by the quiet moments that ended in timeouts
-all_used : (t : Transcript) → IsRunOf t.script t → t.timeouts_left ≡ 0 → count_by (λ x. x.timed) t.moments ≡ patience_of t.script
+all_used : (t : Transcript) → IsRunOf t.script t → t.timeouts_left ≡ 0 → count_by (λ x. x.timed) t.moments ≡ t.script.patience
 all_used t run none = let all = run.lawful.patience in omega arith
 
 -- they came to something, or none would
 tried_where : (t : Transcript) → IsRunOf t.script t → t.timeouts_left ≡ 0
     → AreEach (IsStill (not (are_tried t))) (makers_of t.script) t.traces
-    → (patience_of t.script ≤ sum_by timed_out_in t.traces) ⊎ AreEach (IsIdle Mover.Timeout) (makers_of t.script) t.traces
+    → (t.script.patience ≤ sum_by timed_out_in t.traces) ⊎ AreEach (IsIdle Mover.Timeout) (makers_of t.script) t.traces
 tried_where t run none still = by (are_tried t) refl still
   where
     by : (b : Bool) → are_tried t ≡ b → AreEach (IsStill (not b)) (makers_of t.script) t.traces
-        → (patience_of t.script ≤ sum_by timed_out_in t.traces) ⊎ AreEach (IsIdle Mover.Timeout) (makers_of t.script) t.traces
+        → (t.script.patience ≤ sum_by timed_out_in t.traces) ⊎ AreEach (IsIdle Mover.Timeout) (makers_of t.script) t.traces
     by true e each =
         let used = all_used t run none in
         let tried = at_most (count_by (λ x. x.timed) t.moments) (sum_by timed_out_in t.traces) e in
@@ -65,7 +64,7 @@ timeouts_of t run h = by h.tried
     never : {A : Type 0} (b : Bool) → b ≡ true → not b ≡ true → A
     never b e f = absurd cc
 
-    by : (patience_of t.script ≤ sum_by timed_out_in t.traces) ⊎ AreEach (IsIdle Mover.Timeout) (makers_of t.script) t.traces
+    by : (t.script.patience ≤ sum_by timed_out_in t.traces) ⊎ AreEach (IsIdle Mover.Timeout) (makers_of t.script) t.traces
         → AreEach (IsCalm (not (are_tried t))) (makers_of t.script) t.traces
     by (inl enough) =
         let used = all_used t run h.no_patience in

@@ -1,5 +1,5 @@
 -- What a run of `sim` tells by its exit.
-use Rattle.std.proofs.Common.{◌≡◌, ℕ, ◌≤◌, ◌⊎◌, List, length, None, inl, inr, ap, subst, sym, ◌∙◌}
+use Rattle.std.proofs.Common.{◌≡◌, ℕ, ◌≤◌, ◌⊎◌, List, [], length, None, inl, inr, ap, subst, sym, ◌∙◌}
 use Rattle.fab_io.specs.Devices.{Supply}
 use Rattle.fault_script.specs.declared.scripts.Script.{Script}
 use Rattle.world_laws.specs.Safety.{IsSafe}
@@ -15,7 +15,8 @@ use Rattle.audit_laws.proofs.Witnesses.{witness}
 use Rattle.run_laws.proofs.Unforged.{no_signer_named, bears}
 use Rattle.plain_laws.proofs.Ends.{stalled, cut_off}
 use Rattle.plain_laws.proofs.ReadScripts.{read_one}
-use Rattle.plain_laws.specs.Plain.{IsClash}
+use Rattle.plain_laws.proofs.Timely.{timely}
+use Rattle.plain_laws.specs.Plain.{HasSpent, HasTimedOut, IsClash}
 use Rattle.budget_laws.specs.Budgets.{FitsScript}
 use Rattle.budget_laws.proofs.Budgets.{within_budget}
 use Rattle.script_sim.specs.Schedules.{IsScheduleOf}
@@ -104,25 +105,39 @@ printed_from old new before t Usage h = tt
 
 -- where keys and entries are enough
 within : (script : Script) (t : Transcript) (end : End) → length script.sizes ≤ 1 → t.script ≡ script → IsScheduleOf script t → IsRunOf script t → IsEnd t end
-    → FitsScript t.script → (end ≡ End.Done) ⊎ IsClash end
-within script t end few is schedule run h fits =
-    within_budget script t schedule.0 end few run.limits (subst (λ (s : Script). FitsScript s) is fits) schedule.1 h
+    → t.script.timeouts ≡ [] → FitsScript t.script → (end ≡ End.Done) ⊎ IsClash end
+within script t end few is schedule run h none fits =
+    within_budget script t schedule.0 end few run.limits (subst (λ (s : Script). s.timeouts ≡ []) is none)
+    (subst (λ (s : Script). FitsScript s) is fits) schedule.1 h
+
+-- a run that stalls with no timeout lines has a used-up key
+spent_then : (script : Script) (t : Transcript) → length script.sizes ≤ 1 → t.script ≡ script → IsScheduleOf script t → IsRunOf script t
+    → first_evidence t ≡ None → t.script.timeouts ≡ [] → HasSpent t ⊎ HasTimedOut t → HasSpent t
+spent_then script t few is schedule run clean none (inl spent) = spent
+spent_then script t few is schedule run clean none (inr timed) =
+    timely script t schedule.0 few run.limits (subst (λ (s : Script). s.timeouts ≡ []) is none) schedule.1 clean timed
 
 -- by how it ended
 cause_by : (script : Script) (t : Transcript) (end : End) → length script.sizes ≤ 1 → t.script ≡ script → IsScheduleOf script t → IsRunOf script t → IsEnd t end
     → HasCauseAt t (exit_of end)
 cause_by script t End.Done few is schedule run h = tt
 cause_by script t (End.Stalled client stamp) few is schedule run h = (
-  stalled t client stamp (subst (λ s. length s.sizes ≤ 1) (sym is) few) (own_run script t run) h,
-  λ fits. neither (within script t (End.Stalled client stamp) few is schedule run h fits),
+  why,
+  λ none. (
+    spent_then script t few is schedule run h.0 none why,
+    λ fits. neither (within script t (End.Stalled client stamp) few is schedule run h none fits),
+  ),
 )
   where
+    why : HasSpent t ⊎ HasTimedOut t
+    why = stalled t client stamp (subst (λ s. length s.sizes ≤ 1) (sym is) few) (own_run script t run) h
+
     neither : (End.Stalled client stamp ≡ End.Done) ⊎ IsClash (End.Stalled client stamp) → ⊥
     neither (inl e) = cc
     neither (inr none) = none
 cause_by script t (End.Spent entries) few is schedule run h = (
   subst (λ (s : Script). entries ≡ s.turns) (sym is) (cut_off script t schedule.0 entries run.limits schedule.1 h),
-  λ fits. neither (within script t (End.Spent entries) few is schedule run h fits),
+  λ none fits. neither (within script t (End.Spent entries) few is schedule run h none fits),
 )
   where
     neither : (End.Spent entries ≡ End.Done) ⊎ IsClash (End.Spent entries) → ⊥

@@ -1,5 +1,5 @@
 -- What `sim` does (ours): it runs a script's replicas, sees how the run ended, and writes the report of the run.
-use Rattle.std.specs.Prelude.{◌≡◌, ℕ, List}
+use Rattle.std.specs.Prelude.{◌≡◌, ◌⊎◌, ℕ, List, []}
 use Rattle.fab_io.specs.Devices.{Supply}
 use Rattle.fault_script.specs.declared.scripts.Script.{Script}
 use Rattle.world_laws.specs.Safety.{IsSafe}
@@ -10,7 +10,7 @@ use Rattle.run_worlds.specs.Worlds.{world_of}
 use Rattle.run_worlds.specs.Endings.{IsRunOf, IsEnd}
 use Rattle.script_sim.specs.Schedules.{IsScheduleOf}
 use Rattle.audit_laws.specs.Witnesses.{IsClash}
-use Rattle.plain_laws.specs.Plain.{HasSpent}
+use Rattle.plain_laws.specs.Plain.{HasSpent, HasTimedOut}
 use Rattle.budget_laws.specs.Budgets.{FitsScript}
 use Rattle.ledger_report.specs.Report.{report_text}
 use Rattle.ledger_report.specs.Printed.{world_text}
@@ -69,11 +69,12 @@ IsPrintedAt kept (BadScript bad) = Unit {0}
 IsPrintedAt kept NoMemory = Unit {0}
 IsPrintedAt kept exit = (end : End) → report_text kept end ≡ world_text kept end
 
--- why a run didn't end done: some replica used up its key; the run has just as many entries as its script allows; two different batches have one
--- digest. The first two never come where keys and entries are enough for the script. Nothing in a run is forged
+-- why a run didn't end done: some replica used up its key, or one was timed out; the run has just as many entries as its script allows; two
+-- different batches have one digest. Where the script has no timeout lines, a stalled run has a used-up key, and neither it nor one that was cut
+-- off comes where keys and entries are enough for the script. Nothing in a run is forged
 abbrev pub HasCauseAt : Transcript → Exit → Type 0
-HasCauseAt kept (Stalled client stamp) = HasSpent kept × ¬ FitsScript kept.script
-HasCauseAt kept (Spent entries) = (entries ≡ kept.script.turns) × ¬ FitsScript kept.script
+HasCauseAt kept (Stalled client stamp) = (HasSpent kept ⊎ HasTimedOut kept) × (kept.script.timeouts ≡ [] → HasSpent kept × ¬ FitsScript kept.script)
+HasCauseAt kept (Spent entries) = (entries ≡ kept.script.turns) × (kept.script.timeouts ≡ [] → ¬ FitsScript kept.script)
 HasCauseAt kept (Broken (Evidence.Clash digest first second)) = IsClash kept digest first second
 HasCauseAt kept (Broken (Evidence.Forged i place signer)) = ⊥
 HasCauseAt kept exit = Unit {0}

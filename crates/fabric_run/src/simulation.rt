@@ -89,9 +89,10 @@ fn run<S: Source, K: Sink>(
 /// twice or without its client, and what enough replicas told of a block is so (`safe`). The ledgers that the report prints are the ones of
 /// which this is said (`printed`).
 ///
-/// A run ends done, or has a cause (`cause`): at `Stalled` some replica has used up its key, at `Spent` the run has just as many entries as its
-/// script allows, and at `Broken` two different batches of the run share a digest. No run is broken by a forged statement. Where the keys have leaves and
-/// the script allows entries enough (`FitsScript` of `budget_laws`), it is neither stalled nor spent.
+/// A run ends done, or has a cause (`cause`): at `Stalled` some replica has used up its key or was timed out, at `Spent` the run has just as
+/// many entries as its script allows, and at `Broken` two different batches of the run share a digest. No run is broken by a forged statement.
+/// Where the script has no timeout lines, whatever its patience, a stalled run has a used-up key; and where its keys have leaves and it allows
+/// entries enough (`FitsScript` of `budget_laws`), the run is neither stalled nor spent.
 pub fn simulate_script<S: Source, K: Sink>(
     alloc: Global,
     script: &mut S,

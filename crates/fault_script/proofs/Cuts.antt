@@ -1,7 +1,10 @@
 -- A text is cut at a byte: the parts that a split gives, one after another.
-use Rattle.std.proofs.Common.{◌≡◌, ℕ, ◌+◌, ◌<◌, ◌≤◌, Bool, true, false, cond, not, nat_lt, nat_eq, List, [], ◌∷◌, length, take, drop, Option, Some, None, MatchOption, refl, sym, ap, ◌∙◌, arith}
+use Rattle.std.proofs.Common.{◌≡◌, ℕ, ◌+◌, ◌<◌, ◌≤◌, Bool, true, false, cond, not, nat_lt, nat_eq, List, [], ◌∷◌, length, take, drop, Option, Some, None, Err, MatchOption, refl, sym, ap, ◌∙◌, arith}
 use Rattle.std.proofs.lemmas.Bool.Decides.{nat_tests}
 use Rattle.std.proofs.lemmas.List.Splits.{slice_split-cons_yes, slice_split-cons_no, slice_split_first}
+use Rattle.fault_script.specs.declared.faults.Why.TheVariants.{BadNumber}
+use Rattle.fault_script.specs.Fields.{numbers_in}
+use Rattle.std.specs.Option.{is_some}
 use Rattle.std.specs.List.{slice_split, onto_first, position, position_or_len}
 use Rattle.std.specs.Str.Lines.{lines, lines_of_parts, strip_carriage_return}
 
@@ -43,6 +46,16 @@ parts_of p (x ∷ xs) = go (parts_of p xs) (p x) refl
         → (part : List ℕ) × (parts : List (List ℕ)) × (slice_split p (x ∷ xs) ≡ part ∷ parts)
     go rest true e = ([], slice_split p xs, slice_split-cons_yes p x xs e)
     go rest false e = (x ∷ rest.0, rest.1, slice_split-cons_no p x xs e ∙ ap (onto_first x) rest.2)
+
+-- a text that is cut twice isn't two numbers
+pub cut_twice : {A : Type 0} (p : ℕ → Bool) (text front back : List ℕ) (r : Option A) (first others : A → List ℕ)
+    → slice_split p text ≡ front ∷ slice_split p back
+    → MatchOption r (slice_split p back ≡ back ∷ []) (λ a. (slice_split p back ≡ first a ∷ slice_split p (others a)) × (length (others a) < length back))
+    → is_some r ≡ true → numbers_in (slice_split p text) ≡ Err BadNumber
+cut_twice p text front back None first others e f h = cc
+cut_twice p text front back (Some a) first others e f h =
+    let more = parts_of p (others a) in
+    rw (e ∙ ap (λ l. front ∷ l) (f.0 ∙ ap (λ l. first a ∷ l) more.2)) refl
 
 -- a line that ends, and the lines after it
 pub line_ends : (text part rest : List ℕ) → slice_split (λ b. nat_eq b 10) text ≡ part ∷ slice_split (λ b. nat_eq b 10) rest → lines text ≡ strip_carriage_return part ∷ lines rest

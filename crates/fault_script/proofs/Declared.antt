@@ -1,14 +1,19 @@
 -- What a script declares, as it grows.
-use Rattle.std.proofs.Common.{◌≡◌, ℕ, ◌+◌, ◌<◌, ◌≤◌, Bool, true, ◌&&◌, nat_lt, nat_le, List, [], ◌∷◌, ◌++◌, length, sum, refl, ◌∙◌, arith, length-append}
+use Rattle.std.proofs.Common.{◌≡◌, ℕ, ◌+◌, ◌-◌, ◌<◌, ◌≤◌, Bool, true, ◌&&◌, nat_lt, nat_le, List, [], ◌∷◌, ◌++◌, length, sum, slice_index, refl, sym, subst, ◌∙◌, arith, length-append}
 use Rattle.std.specs.List.{list_all}
 use Rattle.std.proofs.lemmas.List.Folds.{list_all-append}
+use Rattle.std.proofs.lemmas.List.{get_or_append_left}
 use Rattle.fab_base.specs.declared.limits.TheConstants.{MOST_MEMBERS, MOST_REPLICAS, MOST_CLIENTS, MOST_STAMPS}
 use Rattle.fab_base.specs.declared.requests.Op.{Op}
 use Rattle.fab_base.specs.Fields.{op_fits}
 use Rattle.fab_base.proofs.Tests.{and_left, and_right, and_both, below, is_below, at_most, is_at_most}
+use Rattle.fault_script.specs.declared.scripts.TheConstants.{MOST_TIMEOUTS}
 use Rattle.fault_script.specs.declared.scripts.Wish.{Wish}
+use Rattle.fault_script.specs.declared.settings.TheConstants.{MOST_TURNS}
+use Rattle.fault_script.specs.declared.twists.TimeoutLine.{TimeoutLine}
+use Rattle.fault_script.specs.Drafts.{is_declared}
 use Rattle.fault_script.specs.Fields.{is_within}
-use Rattle.fault_script.specs.Scripts.{are_sizes, are_homes, is_wish}
+use Rattle.fault_script.specs.Scripts.{are_sizes, are_homes, is_wish, is_timeout, are_timeouts}
 
 -- where each that passes one test passes another, all pass the other
 module _ {X : Type 0} (p q : X → Bool) where
@@ -80,3 +85,46 @@ homes_and_one clusters homes home room h here =
     and_both (nat_le (length more) MOST_CLIENTS) (list_all (is_within 1 clusters) more)
     (is_at_most (length more) MOST_CLIENTS few)
     (all_and_one (is_within 1 clusters) homes home (and_right (nat_le (length homes) MOST_CLIENTS) (list_all (is_within 1 clusters) homes) h) here)
+
+-- ---- timeouts
+
+-- a replica of some clusters is one of these and one more
+is_timeout_more : (sizes : List ℕ) (size : ℕ) (line : TimeoutLine) → is_timeout sizes line ≡ true → is_timeout (sizes ++ size ∷ []) line ≡ true
+is_timeout_more sizes size line h =
+    let more = sizes ++ size ∷ [] in
+    let cluster = line.replica.cluster in
+    let index = line.replica.index in
+    let soon = nat_le line.entries MOST_TURNS in
+    let inside = nat_lt index (slice_index sizes (cluster - 1)) in
+    let is : is_declared sizes line.replica ≡ true = and_left (is_declared sizes line.replica) soon h in
+    let there = and_left (nat_le 1 cluster && nat_le cluster (length sizes)) inside is in
+    let low = and_left (nat_le 1 cluster) (nat_le cluster (length sizes)) there in
+    let from : 1 ≤ cluster = at_most 1 cluster low in
+    let upto : cluster ≤ length sizes = at_most cluster (length sizes) (and_right (nat_le 1 cluster) (nat_le cluster (length sizes)) there) in
+    let same : slice_index more (cluster - 1) ≡ slice_index sizes (cluster - 1) =
+    get_or_append_left sizes (size ∷ []) 0 (cluster - 1) (omega (arith, from, upto)) in
+    let high : nat_le cluster (length more) ≡ true = is_at_most cluster (length more) (omega (arith, upto, length-append sizes (size ∷ []))) in
+    and_both (is_declared more line.replica) soon
+    (and_both (nat_le 1 cluster && nat_le cluster (length more)) (nat_lt index (slice_index more (cluster - 1)))
+    (and_both (nat_le 1 cluster) (nat_le cluster (length more)) low high)
+    (subst (λ n. nat_lt index n ≡ true) (sym same) (and_right (nat_le 1 cluster && nat_le cluster (length sizes)) inside is)))
+    (and_right (is_declared sizes line.replica) soon h)
+
+pub timeouts_after_one : (sizes : List ℕ) (size : ℕ) (timeouts : List TimeoutLine) → are_timeouts sizes timeouts ≡ true
+    → are_timeouts (sizes ++ size ∷ []) timeouts ≡ true
+timeouts_after_one sizes size timeouts h =
+    let few = nat_le (length timeouts) MOST_TIMEOUTS in
+    and_both few (list_all (is_timeout (sizes ++ size ∷ [])) timeouts)
+    (and_left few (list_all (is_timeout sizes) timeouts) h)
+    (all_pass (is_timeout sizes) (is_timeout (sizes ++ size ∷ [])) (is_timeout_more sizes size) timeouts (and_right few (list_all (is_timeout sizes) timeouts) h))
+
+-- one timeout more
+pub timeouts_and_one : (sizes : List ℕ) (timeouts : List TimeoutLine) (line : TimeoutLine) → length timeouts < MOST_TIMEOUTS
+    → are_timeouts sizes timeouts ≡ true → is_declared sizes line.replica ≡ true → line.entries ≤ MOST_TURNS → are_timeouts sizes (timeouts ++ line ∷ []) ≡ true
+timeouts_and_one sizes timeouts line room h there soon =
+    let more = timeouts ++ line ∷ [] in
+    let few : length more ≤ MOST_TIMEOUTS = omega (arith, room, length-append timeouts (line ∷ [])) in
+    and_both (nat_le (length more) MOST_TIMEOUTS) (list_all (is_timeout sizes) more)
+    (is_at_most (length more) MOST_TIMEOUTS few)
+    (all_and_one (is_timeout sizes) timeouts line (and_right (nat_le (length timeouts) MOST_TIMEOUTS) (list_all (is_timeout sizes) timeouts) h)
+    (and_both (is_declared sizes line.replica) (nat_le line.entries MOST_TURNS) there (is_at_most line.entries MOST_TURNS soon)))

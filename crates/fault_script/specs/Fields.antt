@@ -1,6 +1,6 @@
 -- The fields of a line (ours).
-use Rattle.std.specs.Prelude.{ℕ, ◌+◌, ◌-◌, ◌*◌, ◌^◌, ◌&&◌, not, Bool, nat_eq, nat_le, nat_lt, List, length, fold, Result, Ok, Err, if◌then◌else◌}
-use Rattle.std.specs.List.{list_all}
+use Rattle.std.specs.Prelude.{ℕ, ◌+◌, ◌-◌, ◌*◌, ◌^◌, ◌&&◌, not, Bool, nat_eq, nat_le, nat_lt, List, [], ◌∷◌, length, fold, Result, Ok, Err, if◌then◌else◌}
+use Rattle.std.specs.List.{list_all, slice_split}
 use Rattle.fab_base.specs.declared.limits.TheConstants.{LONGEST_KEY, LONGEST_VALUE}
 use Rattle.fault_script.specs.declared.faults.Why.{Why}
 use Rattle.fault_script.specs.declared.faults.Why.TheVariants.{BadWord, BadNumber, OutOfRange}
@@ -31,6 +31,16 @@ number_within low high word = and_then (number word) (λ n. if is_within low hig
 -- the whole of a line that sets a number between two limits: just one word, which spells such a number
 abbrev pub one_number : ℕ → ℕ → List (List ℕ) → Result ℕ Why
 one_number low high words = and_then (one_word words) (number_within low high)
+
+-- two numbers with a point between them
+abbrev pub numbers_in : List (List ℕ) → Result (ℕ × ℕ) Why
+numbers_in [] = Err BadNumber
+numbers_in (a ∷ []) = Err BadNumber
+numbers_in (a ∷ b ∷ []) = and_then (number a) (λ m. and_then (number b) (λ n. Ok (m, n)))
+numbers_in (a ∷ b ∷ c ∷ rest) = Err BadNumber
+
+abbrev pub two_numbers : List ℕ → Result (ℕ × ℕ) Why
+two_numbers word = numbers_in (slice_split (λ b. nat_eq b 46) word)
 
 -- a word of at most so many bytes
 abbrev pub word_within : ℕ → List ℕ → Result (List ℕ) Why

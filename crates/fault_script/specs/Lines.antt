@@ -7,8 +7,9 @@ use Rattle.fault_script.specs.declared.faults.Why.{Why}
 use Rattle.fault_script.specs.declared.faults.Why.TheVariants.{BadWord, Missing}
 use Rattle.fault_script.specs.Checks.{and_then}
 use Rattle.fault_script.specs.Words.{words_of, same_word, one_word, two_words, three_words}
-use Rattle.fault_script.specs.Fields.{one_number, key_of, value_of}
-use Rattle.fault_script.specs.Drafts.{Draft, declared_cluster, declared_client, with_cluster, with_client, with_request, with_setting}
+use Rattle.fault_script.specs.declared.settings.TheConstants.{MOST_TURNS}
+use Rattle.fault_script.specs.Fields.{one_number, number_within, key_of, value_of}
+use Rattle.fault_script.specs.Drafts.{Draft, declared_cluster, declared_client, declared_replica, with_cluster, with_client, with_request, with_timeout, with_setting}
 
 -- `cluster SIZE`
 abbrev pub cluster_line : Draft → List (List ℕ) → Result Draft Why
@@ -73,12 +74,21 @@ request_line draft [] = Err Missing
 request_line draft (client ∷ []) = Err Missing
 request_line draft (client ∷ kind ∷ fields) = request_of_kind draft client kind fields
 
+-- `timeout REPLICA ENTRIES`
+abbrev pub timeout_line : Draft → List (List ℕ) → Result Draft Why
+timeout_line draft words =
+    and_then (two_words words) (λ f.
+    and_then (declared_replica draft f.0) (λ replica.
+    and_then (number_within 0 MOST_TURNS f.1) (λ entries.
+    with_timeout draft replica entries)))
+
 -- the first word of a line decides the rest; what declares nothing sets something
 abbrev pub line_of_kind : Draft → List ℕ → List (List ℕ) → Result Draft Why
 line_of_kind draft kind words =
     if same_word kind (codes "cluster") then cluster_line draft words
     else if same_word kind (codes "client") then client_line draft words
     else if same_word kind (codes "request") then request_line draft words
+    else if same_word kind (codes "timeout") then timeout_line draft words
     else with_setting draft kind words
 
 -- a line without words is skipped

@@ -9,7 +9,10 @@ use Rattle.fault_script.specs.declared.faults.BadScript.{BadScript}
 use Rattle.fault_script.specs.declared.faults.ScriptFault.{ScriptFault}
 use Rattle.fault_script.specs.declared.scripts.Script.{Script}
 use Rattle.fault_script.specs.declared.scripts.Wish.{Wish}
-use Rattle.fault_script.specs.Drafts.{Draft, empty_draft}
+use Rattle.fault_script.specs.declared.scripts.TheConstants.{MOST_TIMEOUTS}
+use Rattle.fault_script.specs.declared.settings.TheConstants.{MOST_TURNS}
+use Rattle.fault_script.specs.declared.twists.TimeoutLine.{TimeoutLine}
+use Rattle.fault_script.specs.Drafts.{Draft, empty_draft, is_declared}
 use Rattle.fault_script.specs.Fields.{is_within}
 use Rattle.fault_script.specs.Lines.{line}
 use Rattle.fault_script.specs.Settings.{interval_of, are_settings}
@@ -30,11 +33,13 @@ script_made draft = record {
   sizes = draft.sizes;
   homes = draft.homes;
   requests = draft.wishes;
+  timeouts = draft.timeouts;
   batch = draft.settings.batch.value;
   window = draft.settings.window.value;
   interval = interval_of draft.settings;
   seed = draft.settings.seed.value;
   turns = draft.settings.turns.value;
+  patience = draft.settings.patience.value;
   height = draft.settings.height.value;
 }
 
@@ -78,13 +83,21 @@ stamps_run before (wish ∷ rest) = nat_eq wish.stamp (count_of wish.client.numb
 abbrev pub are_wishes : ℕ → List Wish → Bool
 are_wishes clients wishes = list_all (is_wish clients) wishes && stamps_run [] wishes
 
--- whether the clusters, their clients, the requests of these and the settings are within the limits
+-- whether there are no more timeouts than there may be, each of a replica of clusters of these sizes
+abbrev pub is_timeout : List ℕ → TimeoutLine → Bool
+is_timeout sizes line = is_declared sizes line.replica && nat_le line.entries MOST_TURNS
+
+abbrev pub are_timeouts : List ℕ → List TimeoutLine → Bool
+are_timeouts sizes timeouts = nat_le (length timeouts) MOST_TIMEOUTS && list_all (is_timeout sizes) timeouts
+
+-- whether the clusters, their clients, the requests of these, the timeouts and the settings are within the limits
 abbrev pub keeps_limits : Script → Bool
 keeps_limits script =
     are_sizes script.sizes
     && (are_homes (length script.sizes) script.homes
     && (are_wishes (length script.homes) script.requests
-    && are_settings script.batch script.window script.interval script.seed script.turns script.height))
+    && (are_timeouts script.sizes script.timeouts
+    && are_settings script.batch script.window script.interval script.seed script.turns script.patience script.height)))
 
 -- the stamps are how many requests each client has
 abbrev pub AreCounts : List ℕ → List Wish → Type 0

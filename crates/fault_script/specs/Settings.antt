@@ -1,9 +1,9 @@
 -- The settings of a script (ours): numbers that a line may set, each once; until one does, each has its default.
-use Rattle.std.specs.Prelude.{ℕ, ◌-◌, ◌^◌, ◌&&◌, ◌||◌, Bool, true, false, nat_eq, nat_lt, min, List, codes, Option, Some, None, Result, Ok, Err, if◌then◌else◌}
+use Rattle.std.specs.Prelude.{ℕ, ◌-◌, ◌^◌, ◌&&◌, ◌||◌, Bool, true, false, nat_eq, nat_le, nat_lt, min, List, codes, Option, Some, None, Result, Ok, Err, if◌then◌else◌}
 use Rattle.fab_base.specs.declared.limits.TheConstants.{MOST_REQUESTS, MOST_SLOTS}
 use Rattle.fault_script.specs.declared.faults.Why.{Why}
 use Rattle.fault_script.specs.declared.faults.Why.TheVariants.{BadWord, OutOfRange, Double}
-use Rattle.fault_script.specs.declared.settings.TheConstants.{MOST_TURNS}
+use Rattle.fault_script.specs.declared.settings.TheConstants.{MOST_TURNS, MOST_PATIENCE}
 use Rattle.fault_script.specs.declared.settings.Setting.{Setting}
 use Rattle.fault_script.specs.declared.table.Kind.{Kind}
 use Rattle.fault_script.specs.declared.table.Row.{Row}
@@ -21,6 +21,7 @@ kind_of_word word =
     else if same_word word (codes "interval") then Some Kind.Interval
     else if same_word word (codes "seed") then Some Kind.Seed
     else if same_word word (codes "turns") then Some Kind.Turns
+    else if same_word word (codes "patience") then Some Kind.Patience
     else if same_word word (codes "height") then Some Kind.Height
     else None
 
@@ -31,6 +32,7 @@ row_of Kind.Window = record { least = 1; greatest = MOST_SLOTS; default = 16 }
 row_of Kind.Interval = record { least = 1; greatest = MOST_SLOTS; default = 8 }
 row_of Kind.Seed = record { least = 0; greatest = 2 ^ 64 - 1; default = 0 }
 row_of Kind.Turns = record { least = 1; greatest = MOST_TURNS; default = 100000 }
+row_of Kind.Patience = record { least = 0; greatest = MOST_PATIENCE; default = 10 }
 row_of Kind.Height = record { least = 5; greatest = 10; default = 10 }
 
 -- the heights that a key's tree may have
@@ -60,6 +62,7 @@ pub record Settings : Type 0 where
   pub interval : Setting
   pub seed : Setting
   pub turns : Setting
+  pub patience : Setting
   pub height : Setting
 
 -- until a line sets one
@@ -70,6 +73,7 @@ default_settings = record {
   interval = unset Kind.Interval;
   seed = unset Kind.Seed;
   turns = unset Kind.Turns;
+  patience = unset Kind.Patience;
   height = unset Kind.Height;
 }
 
@@ -79,6 +83,7 @@ setting_of settings Kind.Window = settings.window
 setting_of settings Kind.Interval = settings.interval
 setting_of settings Kind.Seed = settings.seed
 setting_of settings Kind.Turns = settings.turns
+setting_of settings Kind.Patience = settings.patience
 setting_of settings Kind.Height = settings.height
 
 abbrev pub with_set : Settings → Kind → Setting → Settings
@@ -87,6 +92,7 @@ with_set settings Kind.Window setting = record settings { window = setting }
 with_set settings Kind.Interval setting = record settings { interval = setting }
 with_set settings Kind.Seed setting = record settings { seed = setting }
 with_set settings Kind.Turns setting = record settings { turns = setting }
+with_set settings Kind.Patience setting = record settings { patience = setting }
 with_set settings Kind.Height setting = record settings { height = setting }
 
 -- ---- a line
@@ -132,11 +138,12 @@ abbrev pub interval_of : Settings → ℕ
 interval_of settings = if settings.interval.given then settings.interval.value else min settings.interval.value settings.window.value
 
 -- whether each setting is in its range
-abbrev pub are_settings : ℕ → ℕ → ℕ → ℕ → ℕ → ℕ → Bool
-are_settings batch window interval seed turns height =
+abbrev pub are_settings : ℕ → ℕ → ℕ → ℕ → ℕ → ℕ → ℕ → Bool
+are_settings batch window interval seed turns patience height =
     is_within 1 MOST_REQUESTS batch
     && (is_within 1 MOST_SLOTS window
     && (is_within 1 window interval
     && (nat_lt seed (2 ^ 64)
     && (is_within 1 MOST_TURNS turns
-    && is_height height))))
+    && (nat_le patience MOST_PATIENCE
+    && is_height height)))))

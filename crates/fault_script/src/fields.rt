@@ -4,10 +4,10 @@ ghost use Rattle.std.specs.List.{list_all};
 ghost use Rattle.fab_base.specs.Fields.{bytes_fit};
 ghost use Rattle.fault_script.specs.Checks.{Gives};
 ghost use Rattle.fault_script.specs.Words.{words_of};
-ghost use Rattle.fault_script.specs.Fields.{is_digit, is_numeral, value_of_digits, number, number_within, one_number, word_within, key_of, value_of};
+ghost use Rattle.fault_script.specs.Fields.{is_digit, is_numeral, value_of_digits, number, number_within, one_number, two_numbers, word_within, key_of, value_of};
 
 use crate::faults::Why;
-use crate::words::Words;
+use crate::words::{Words, cut_once};
 use fab_base::{LONGEST_KEY, LONGEST_VALUE};
 
 /// Whether the byte is a digit.
@@ -60,7 +60,7 @@ pub(crate) fn number(word: &[u8]) -> Result<u64, Why>
 }
 
 /// A number between two limits.
-fn number_within(low: u64, high: u64, word: &[u8]) -> Result<u64, Why>
+pub(crate) fn number_within(low: u64, high: u64, word: &[u8]) -> Result<u64, Why>
     ensures is { result ≡ number_within low high word.now }
     ensures within { IfOk result (λ n. (low ≤ n) × (n ≤ high)) }
 {
@@ -78,6 +78,21 @@ pub(crate) fn one_number(low: u64, high: u64, words: Words<'_>) -> Result<u64, W
     ensures within { IfOk result (λ n. (low ≤ n) × (n ≤ high)) }
 {
     number_within(low, high, words.one()?)
+}
+
+/// Two numbers with a point between them.
+pub(crate) fn two_numbers(word: &[u8]) -> Result<(u64, u64), Why>
+    ensures { result ≡ two_numbers word.now }
+{
+    let Some((front, back)) = cut_once(word, b'.') else {
+        return Err(Why::BadNumber);
+    };
+    if cut_once(back, b'.').is_some() {
+        return Err(Why::BadNumber);
+    }
+    let first = number(front)?;
+    let second = number(back)?;
+    Ok((first, second))
 }
 
 /// A word of at most so many bytes.

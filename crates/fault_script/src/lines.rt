@@ -3,11 +3,12 @@ ghost use Rattle.std.specs.Prelude.{◌≡◌, codes, length, IfOk};
 ghost use Rattle.std.specs.List.{list_all};
 ghost use Rattle.fault_script.specs.Checks.{Leaves};
 ghost use Rattle.fault_script.specs.Words.{words_of};
-ghost use Rattle.fault_script.specs.Lines.{cluster_line, client_line, put_line, get_line, cut_line, swap_line, request_of_kind, request_line, line_of_kind, line_of_words, is_comment, is_printable, line};
+ghost use Rattle.fault_script.specs.Lines.{cluster_line, client_line, put_line, get_line, cut_line, swap_line, request_of_kind, request_line, timeout_line, line_of_kind, line_of_words, is_comment, is_printable, line};
 
 use crate::drafts::Draft;
 use crate::faults::{LineFault, Why};
-use crate::fields::{key_of, one_number, value_of};
+use crate::fields::{key_of, number_within, one_number, value_of};
+use crate::settings::MOST_TURNS;
 use crate::words::{Words, same_word};
 use fab_base::{MOST_MEMBERS, Op};
 
@@ -117,6 +118,16 @@ fn request_line(draft: &mut Draft, mut words: Words<'_>) -> Result<(), LineFault
     request_of_kind(draft, client, kind, words)
 }
 
+/// `timeout REPLICA ENTRIES`
+fn timeout_line(draft: &mut Draft, words: Words<'_>) -> Result<(), LineFault>
+    ensures { Leaves result draft.new (timeout_line draft.old (words_of words.entry.rest.now)) }
+{
+    let (replica, entries) = words.two()?;
+    let replica = draft.declared_replica(replica)?;
+    let entries = number_within(0, MOST_TURNS as u64, entries)?;
+    draft.add_timeout(replica, entries as u32)
+}
+
 /// What follows the first word of a line.
 fn line_of_kind(draft: &mut Draft, kind: &[u8], words: Words<'_>) -> Result<(), LineFault>
     ensures { Leaves result draft.new (line_of_kind draft.old kind.now (words_of words.entry.rest.now)) }
@@ -127,6 +138,8 @@ fn line_of_kind(draft: &mut Draft, kind: &[u8], words: Words<'_>) -> Result<(), 
         client_line(draft, words)
     } else if same_word(kind, b"request") {
         request_line(draft, words)
+    } else if same_word(kind, b"timeout") {
+        timeout_line(draft, words)
     } else {
         draft.set(kind, words)
     }

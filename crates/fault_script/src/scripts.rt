@@ -2,8 +2,12 @@
 ghost use Rattle.std.specs.Prelude.{◌≡◌, [], IfOk};
 ghost use Rattle.fault_script.specs.Asking.{asked};
 
+use crate::twists::TimeoutLines;
 use fab_base::{Bytes, ClientId, Duplicate, NoMemory, Op, Request, Rows};
 use std::alloc::Global;
+
+/// The most timeouts of a script.
+pub const MOST_TIMEOUTS: u8 = 16;
 
 /// A request that a script has a client make. Its stamp is its number among the client's requests.
 #[derive(Debug, Drop)]
@@ -54,6 +58,8 @@ pub struct Script {
     pub homes: Bytes,
     /// The requests, in the order of the script.
     pub requests: Wishes,
+    /// The timeouts that are given whatever happens, in the order of the script: at most `MOST_TIMEOUTS`, each of a replica that is declared.
+    pub timeouts: TimeoutLines,
     /// The most requests of a batch: 1 to `MOST_REQUESTS`, 8 where no line sets it.
     pub batch: u8,
     /// How many slots above the low mark are open at once: 1 to `MOST_SLOTS`, 16 where no line sets it.
@@ -64,6 +70,8 @@ pub struct Script {
     pub seed: u64,
     /// The entries of all journals together at which a run ends as spent: 1 to `MOST_TURNS`, 100,000 where no line sets it.
     pub turns: u32,
+    /// How many quiet moments of a run may end in timeouts: 0 to `MOST_PATIENCE`, 10 where no line sets it.
+    pub patience: u32,
     /// The height of the tree of each replica's key: 5 or 10, 10 where no line sets it.
     pub height: u8,
 }

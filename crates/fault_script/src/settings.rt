@@ -12,6 +12,9 @@ use std::marker::Model;
 /// The greatest budget of turns, the number of entries of all journals together at which a run ends.
 pub const MOST_TURNS: u32 = 200_000;
 
+/// The greatest patience, the number of quiet moments of a run that may end in timeouts.
+pub const MOST_PATIENCE: u32 = 50;
+
 /// A number that a line may set.
 #[derive(Clone, Copy, Drop)]
 pub(crate) struct Setting {
@@ -52,22 +55,23 @@ pub(crate) struct Settings {
     pub(crate) interval: Setting,
     pub(crate) seed: Setting,
     pub(crate) turns: Setting,
+    pub(crate) patience: Setting,
     pub(crate) height: Setting,
 }
 
 impl Model for Settings {
     ghost use Rattle.std.specs.Prelude.{◌≡◌, ◌≤◌, true, IsTrue};
     ghost use Rattle.fab_base.specs.declared.limits.TheConstants.{MOST_REQUESTS, MOST_SLOTS};
-    ghost use Rattle.fault_script.specs.declared.settings.TheConstants.{MOST_TURNS};
+    ghost use Rattle.fault_script.specs.declared.settings.TheConstants.{MOST_TURNS, MOST_PATIENCE};
     ghost use Rattle.fault_script.specs.Settings.{Settings, is_height};
 
     ghost Value = { Settings };
 
-    ghost view = { λ s. record { batch = s.batch; window = s.window; interval = s.interval; seed = s.seed; turns = s.turns; height = s.height } };
+    ghost view = { λ s. record { batch = s.batch; window = s.window; interval = s.interval; seed = s.seed; turns = s.turns; patience = s.patience; height = s.height } };
 
-    ghost inverse = { λ s. record { batch = s.batch; window = s.window; interval = s.interval; seed = s.seed; turns = s.turns; height = s.height } };
+    ghost inverse = { λ s. record { batch = s.batch; window = s.window; interval = s.interval; seed = s.seed; turns = s.turns; patience = s.patience; height = s.height } };
 
-    ghost invariant = { λ s. (1 ≤ s.batch.value) × (s.batch.value ≤ MOST_REQUESTS) × (1 ≤ s.window.value) × (s.window.value ≤ MOST_SLOTS) × (1 ≤ s.interval.value) × (IsTrue s.interval.given → s.interval.value ≤ s.window.value) × (1 ≤ s.turns.value) × (s.turns.value ≤ MOST_TURNS) × (is_height s.height.value ≡ true) };
+    ghost invariant = { λ s. (1 ≤ s.batch.value) × (s.batch.value ≤ MOST_REQUESTS) × (1 ≤ s.window.value) × (s.window.value ≤ MOST_SLOTS) × (1 ≤ s.interval.value) × (IsTrue s.interval.given → s.interval.value ≤ s.window.value) × (1 ≤ s.turns.value) × (s.turns.value ≤ MOST_TURNS) × (s.patience.value ≤ MOST_PATIENCE) × (is_height s.height.value ≡ true) };
 }
 
 impl Settings {
@@ -81,6 +85,7 @@ impl Settings {
             interval: Setting::unset(Kind::Interval),
             seed: Setting::unset(Kind::Seed),
             turns: Setting::unset(Kind::Turns),
+            patience: Setting::unset(Kind::Patience),
             height: Setting::unset(Kind::Height),
         }
     }
@@ -95,6 +100,7 @@ impl Settings {
             Kind::Interval => self.interval,
             Kind::Seed => self.seed,
             Kind::Turns => self.turns,
+            Kind::Patience => self.patience,
             Kind::Height => self.height,
         }
     }
@@ -111,6 +117,7 @@ impl Settings {
             Kind::Interval => self.interval = setting,
             Kind::Seed => self.seed = setting,
             Kind::Turns => self.turns = setting,
+            Kind::Patience => self.patience = setting,
             Kind::Height => self.height = setting,
         }
         self

@@ -2,7 +2,7 @@
 ghost use Rattle.std.specs.Prelude.{◌≡◌};
 ghost use Rattle.fault_script.specs.Settings.{kind_of_word, row_of, is_allowed};
 
-use crate::settings::MOST_TURNS;
+use crate::settings::{MOST_PATIENCE, MOST_TURNS};
 use crate::words::same_word;
 use fab_base::{MOST_REQUESTS, MOST_SLOTS};
 
@@ -19,6 +19,8 @@ pub(crate) enum Kind {
     Seed,
     /// The entries at which a run ends.
     Turns,
+    /// How many quiet moments may end in timeouts.
+    Patience,
     /// The height of a replica's key.
     Height,
 }
@@ -49,6 +51,8 @@ impl Kind {
             Some(Kind::Seed)
         } else if same_word(word, b"turns") {
             Some(Kind::Turns)
+        } else if same_word(word, b"patience") {
+            Some(Kind::Patience)
         } else if same_word(word, b"height") {
             Some(Kind::Height)
         } else {
@@ -66,6 +70,7 @@ impl Kind {
             Kind::Interval => (1, MOST_SLOTS as u64, 8),
             Kind::Seed => (0, u64::MAX, 0),
             Kind::Turns => (1, MOST_TURNS as u64, 100_000),
+            Kind::Patience => (0, MOST_PATIENCE as u64, 10),
             Kind::Height => (5, 10, 10),
         };
         Row {

@@ -1,4 +1,4 @@
-//! What a script has go wrong: the types that the lines of later stages are read into. No line sets one yet, and a script has none.
+//! What a script has go wrong. Timeouts are read from its lines; no line sets a fault or a loss yet, and a script has none.
 use fab_base::{ReplicaId, Rows};
 
 /// What a faulty replica does (ours). It runs as a correct one does; what it sends is changed.

@@ -15,7 +15,7 @@ fn place_of(text: &[u8], byte: u8) -> Option<usize>
 }
 
 /// What stands before the first such byte, and what stands after it; `None` where there is no such byte.
-fn cut_once(text: &[u8], byte: u8) -> Option<(&[u8], &[u8])>
+pub(crate) fn cut_once(text: &[u8], byte: u8) -> Option<(&[u8], &[u8])>
     ensures { MatchOption result
         (slice_split (λ b. nat_eq b byte) text.now ≡ text.now ∷ [])
         (λ cut. (slice_split (λ b. nat_eq b byte) text.now ≡ cut.0.now ∷ slice_split (λ b. nat_eq b byte) cut.1.now) × (length cut.1.now < length text.now)) }

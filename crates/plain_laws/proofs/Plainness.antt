@@ -1,6 +1,6 @@
--- In a run of one cluster in which nobody times out nobody hears of views, of pleas, or of another cluster. By time: what a replica put before
+-- In a run of one cluster in which nobody timed out nobody hears of views, of pleas, or of another cluster. By time: what a replica put before
 -- it heard of such things is of the kinds that a cluster needs in view 0.
-use Rattle.std.proofs.Common.{◌≡◌, ℕ, zero, suc, ◌<◌, ◌≤◌, Bool, true, false, cond, List, [], ◌∷◌, ◌++◌, map, length, inl, inr, refl, sym, ap, subst, ◌∙◌, append_assoc, append-nil, arith}
+use Rattle.std.proofs.Common.{◌≡◌, ℕ, zero, suc, ◌<◌, ◌≤◌, Bool, true, false, cond, List, [], ◌∷◌, ◌++◌, length, inl, inr, refl, sym, ap, subst, ◌∙◌, append_assoc, append-nil, arith}
 use Rattle.std.specs.Prelude.{IsTrue}
 use Rattle.fab_base.specs.Limits.{IsWithinLimits}
 use Rattle.fab_base.specs.Roster.{is_replica}
@@ -34,11 +34,11 @@ use Rattle.run_words.proofs.Twisting.{added_bytes, copies_are_sent, put_is}
 use Rattle.script_keys.specs.Requests.{request_of}
 use Rattle.script_keys.proofs.Sounds.{keyed}
 use Rattle.script_keys.proofs.Wishes.{asked_in, request_has_fields}
-use Rattle.run_worlds.specs.Scripts.{roster_of, maker_of, makers_of, line_of, script_rules}
+use Rattle.run_worlds.specs.Scripts.{roster_of, maker_of, makers_of, script_rules}
 use Rattle.run_worlds.specs.Endings.{IsOfLogs, IsRunOf}
 use Rattle.run_worlds.proofs.RunLogs.{logs_of}
 use Rattle.run_worlds.proofs.ScriptLimits.{within_limits}
-use Rattle.run_worlds.proofs.Untroubled.{none_faulty, no_lines, no_patience}
+use Rattle.run_worlds.proofs.Untroubled.{none_faulty}
 use Rattle.audit_laws.proofs.Members.{takes_part}
 use Rattle.audit_laws.proofs.Sanity.{is_of_script}
 use Rattle.audit_laws.proofs.Journals.{was_heard}
@@ -48,7 +48,7 @@ use Rattle.run_laws.proofs.Quotes.{IsBefore, before_still}
 use Rattle.run_laws.proofs.Copies.{from_client, from_replica, posted_is, same_message}
 use Rattle.run_laws.proofs.Unforged.{each_at}
 use Rattle.script_keys.specs.Keys.{replicas_of}
-use Rattle.plain_laws.proofs.Untimed.{IsUntimed, none_timed}
+use Rattle.plain_laws.specs.Plain.{HasTimedOut}
 use Rattle.plain_laws.proofs.Members.{journal_related, journal_heedful}
 
 -- ---- the front of a journal
@@ -159,7 +159,7 @@ next_plain m earlier limits one known made sound plain h =
 -- ---- a run
 
 module _ (t : Transcript) (run : IsOfLogs t) (delivered : AreEach (IsDelivered (script_rules t.script) t.traces) (makers_of t.script) t.traces)
-    (untimed : AreEach IsUntimed (makers_of t.script) t.traces) (one : length t.script.sizes ≡ 1) where
+    (untimed : HasTimedOut t → ⊥) (one : length t.script.sizes ≡ 1) where
   abbrev maker : Trace → Maker
   maker trace = maker_of t.script trace.id
 
@@ -167,7 +167,7 @@ module _ (t : Transcript) (run : IsOfLogs t) (delivered : AreEach (IsDelivered (
   delivered_at trace i = each_at (IsDelivered (script_rules t.script) t.traces) t.script (replicas_of t.script) t.traces run.kept delivered trace i
 
   untimed_at : (trace : Trace) → In trace t.traces → In Entry.TimedOut trace.journal → ⊥
-  untimed_at trace i = each_at IsUntimed t.script (replicas_of t.script) t.traces run.kept untimed trace i
+  untimed_at trace i h = untimed (record { trace = trace; inside = i; timed = h })
 
   kept_at : (trace : Trace) → In trace t.traces → Kept (maker trace) trace
   kept_at trace i = (trace_is t run trace i).kept
@@ -249,9 +249,6 @@ module _ (t : Transcript) (run : IsOfLogs t) (delivered : AreEach (IsDelivered (
 
 -- ---- a lawful run of a script
 
-pub run_untimed : (t : Transcript) → IsRunOf t.script t → AreEach IsUntimed (makers_of t.script) t.traces
-run_untimed t run =
-    none_timed (script_rules t.script) t run.lawful (ap (λ lines. map (λ line. line_of t.script line) lines) (no_lines t.script)) (no_patience t.script)
-
-pub run_plain : (t : Transcript) → IsRunOf t.script t → length t.script.sizes ≡ 1 → (trace : Trace) → In trace t.traces → ArePlainEntries trace.journal
-run_plain t run one trace i = all_plain t (logs_of t run) run.lawful.delivered (run_untimed t run) one trace i
+pub run_plain : (t : Transcript) → IsRunOf t.script t → (HasTimedOut t → ⊥) → length t.script.sizes ≡ 1 → (trace : Trace) → In trace t.traces
+    → ArePlainEntries trace.journal
+run_plain t run untimed one trace i = all_plain t (logs_of t run) run.lawful.delivered untimed one trace i

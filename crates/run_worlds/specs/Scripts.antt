@@ -8,7 +8,7 @@ use Rattle.fault_script.specs.declared.scripts.Script.{Script}
 use Rattle.run_words.specs.Journal.{Maker}
 use Rattle.run_words.specs.Runs.{Rules, Line}
 use Rattle.fault_script.specs.declared.twists.TimeoutLine.{TimeoutLine}
-use Rattle.run_worlds.specs.Troubles.{fault_of, losses_of, lines_of, patience_of}
+use Rattle.run_worlds.specs.Troubles.{fault_of, losses_of}
 use Rattle.script_keys.specs.Keys.{leaves_of, signature_of, replicas_of}
 use Rattle.script_keys.specs.Rings.{ring_of}
 use Rattle.script_keys.specs.Requests.{copies_of}
@@ -55,8 +55,8 @@ script_rules script = record {
   script = script;
   makers = makers_of script;
   requests = copies_of script;
-  lines = map (λ line. line_of script line) (lines_of script);
-  patience = patience_of script;
+  lines = map (λ line. line_of script line) script.timeouts;
+  patience = script.patience;
   word = word_in script;
   turns = script.turns;
 }

@@ -1,4 +1,4 @@
--- What a script has go wrong (ours): who is faulty, what is lost and repeated, which timeouts are given.
+-- What a script has go wrong (ours): who is faulty, what is lost and repeated.
 use Rattle.std.specs.Prelude.{ℕ, ◌+◌, ◌-◌, nat_le, nat_lt, Bool, true, cond, ◌&&◌, List, [], ◌∷◌, length, slice_index, Option, Some, None}
 use Rattle.std.specs.List.{list_all}
 use Rattle.std.specs.Option.{is_some}
@@ -9,20 +9,13 @@ use Rattle.run_words.specs.Keyed.{is_same}
 use Rattle.fault_script.specs.declared.twists.Fault.{Fault}
 use Rattle.fault_script.specs.declared.twists.Loss.{Loss}
 use Rattle.fault_script.specs.declared.twists.FaultLine.{FaultLine}
-use Rattle.fault_script.specs.declared.twists.TimeoutLine.{TimeoutLine}
 
--- four words that stand for fields of a script which aren't there yet. Nothing looks into them but proofs/Untroubled
+-- two words that stand for fields of a script which aren't there yet. Nothing looks into them but proofs/Untroubled
 unfoldable pub faults_of : Script → List FaultLine
 faults_of script = []
 
 unfoldable pub losses_of : Script → List Loss
 losses_of script = []
-
-unfoldable pub lines_of : Script → List TimeoutLine
-lines_of script = []
-
-unfoldable pub patience_of : Script → ℕ
-patience_of script = 0
 
 -- ---- who is faulty
 
@@ -45,11 +38,3 @@ are_few script c (n ∷ sizes) =
 
 abbrev pub bears_faults : Script → Bool
 bears_faults script = are_few script 1 script.sizes
-
--- ---- timeouts are of its replicas
-
-abbrev pub is_declared : List ℕ → ReplicaId → Bool
-is_declared sizes i = (nat_le 1 i.cluster && nat_le i.cluster (length sizes)) && nat_lt i.index (slice_index sizes (i.cluster - 1))
-
-abbrev pub are_timeouts : Script → Bool
-are_timeouts script = list_all (λ line. is_declared script.sizes line.replica) (lines_of script)

@@ -6,6 +6,8 @@ pub mod Giving
 pub mod Picked
 pub mod Ready
 pub mod FewerCopies
+pub mod EachInTurn
+pub mod Walking
 pub mod QuietMoments
 pub mod Turns
 pub mod Opening

@@ -8,17 +8,18 @@ use Rattle.run_words.specs.declared.logs.Trace.{Trace}
 use Rattle.run_words.specs.declared.logs.Transcript.{Transcript}
 use Rattle.fab_base.specs.Limits.{Roster}
 use Rattle.fault_script.specs.declared.scripts.Script.{Script}
+use Rattle.fault_script.specs.declared.twists.TimeoutLine.{TimeoutLine}
 use Rattle.bft_verify.specs.Ring.{Ring}
 use Rattle.run_words.specs.Journal.{Maker}
 use Rattle.run_words.specs.Lawful.{IsApart, AreApart}
-use Rattle.run_words.specs.Runs.{Rules, Run, start, after, trace_in, IsSchedule}
+use Rattle.run_words.specs.Runs.{Rules, Run, start, after, trace_in}
 use Rattle.rand_chacha.specs.ChaCha.{ChaCha, key_of, of_seed}
 use Rattle.sim_sched.specs.Seats.{SeatView, AllOpen, receive, seat_in}
 use Rattle.sim_sched.specs.Putting.{IsNone, AreDistinct, ids_of}
 use Rattle.sim_sched.specs.Simulating.{AreRules, AllMadeWith, IsHeld, IsReady}
 use Rattle.sim_sched.specs.Playing.{Played}
 use Rattle.sim_sched.proofs.Receiving.{mapped_more}
-use Rattle.sim_sched.specs.Whole.{seed_bytes, rules_of, AreFresh, AreMadeWith, empty_seat, seat_trace}
+use Rattle.sim_sched.specs.Whole.{seed_bytes, rules_of, IsRunBy, AreFresh, AreMadeWith, empty_seat, seat_trace}
 
 take_front : {X : Type 0} (xs ys : List X) → take (length xs) (xs ++ ys) ≡ xs
 take_front [] ys = refl
@@ -76,34 +77,33 @@ module _ {P : Type 0} (made : P → Maker) (journal : P → List Entry) (shut : 
   traces_of run (m ∷ rest) = ap (λ l. trace_in run m ∷ l) (traces_of run rest)
 
   pub schedule : (script : Script) (parties : List P) (ids : List ReplicaId) (requests : List (ReplicaId × Pending)) (limit : ℕ)
-      (views now : List SeatView) (g : ChaCha) (begun later : List Moment) (spent : Bool) (traces : List Trace) → ids ≡ map (λ p. (made p).id) parties → AreDistinct ids
-      → AreFresh journal shut parties → limit ≡ script.turns → views ≡ map (receive requests) (map (empty_seat made journal shut) parties)
-      → g ≡ of_seed (seed_bytes script.seed) → begun ≡ [] → Played limit views g begun spent now later → traces ≡ map seat_trace now
-      → IsSchedule (rules_of script (map made parties) requests)
-      (record { script = script; traces = traces; moments = later; timeouts_left = 0 }) spent
-  schedule script parties ids requests limit views now g begun later spent traces i d f t v w b played e =
-      let r = rules_of script (map made parties) requests in
+      (views now : List SeatView) (g : ChaCha) (begun later : List Moment) (left : ℕ) (spent : Bool) (traces : List Trace) → ids ≡ map (λ p. (made p).id) parties
+      → AreDistinct ids → AreFresh journal shut parties → limit ≡ script.turns → views ≡ map (receive requests) (map (empty_seat made journal shut) parties)
+      → g ≡ of_seed (seed_bytes script.seed) → begun ≡ [] → Played limit views g script.timeouts script.patience begun spent now left later
+      → traces ≡ map seat_trace now
+      → IsRunBy script (map made parties) requests (record { script = script; traces = traces; moments = later; timeouts_left = left }) spent
+  schedule script parties ids requests limit views now g begun later left spent traces i d f t v w b played e lines are =
+      let r = rules_of script (map made parties) lines requests in
       let rules : AreRules r (key_of (seed_bytes script.seed)) limit =
       record { distinct = apart_makers parties (subst AreDistinct i d); word_so = λ t. refl; turns_so = sym t } in
-      let held : IsHeld r (key_of (seed_bytes script.seed)) (start r) views g 0 begun = record {
+      let held : IsHeld r (key_of (seed_bytes script.seed)) (start r) views g 0 script.patience begun = record {
         seated = v ∙ seats_first r parties f;
         placed = w;
         counted = refl;
+        left = refl;
         noted = b;
-        no_lines = refl;
-        no_patience = refl;
       } in
-      let end = played r (key_of (seed_bytes script.seed)) rules held in
+      let end = played r (key_of (seed_bytes script.seed)) rules are held in
       let run : Run = after r end.number in
-      let by_traces : List Trace → Transcript = λ l. record { script = script; traces = l; moments = later; timeouts_left = 0 } in
+      let by_traces : List Trace → Transcript = λ l. record { script = script; traces = l; moments = later; timeouts_left = left } in
       let by_moments : List Moment → Transcript = λ l. record
-      { script = script; traces = map (trace_in run) (map made parties); moments = l; timeouts_left = 0 } in
+      { script = script; traces = map (trace_in run) (map made parties); moments = l; timeouts_left = left } in
       let by_left : ℕ → Transcript = λ n. record
       { script = script; traces = map (trace_in run) (map made parties); moments = run.moments; timeouts_left = n } in (
         end.number,
         end.phase,
         ap by_traces (e ∙ ap (map seat_trace) end.seated ∙ traces_of run (map made parties)) ∙ ap by_moments end.noted
-            ∙ ap by_left (sym end.no_patience),
+            ∙ ap by_left end.left,
       )
 
 open_more : {X : Type 0} (f : X → SeatView) (xs : List X) (x : X) → AllOpen (map f (xs ++ x ∷ []))
@@ -120,10 +120,10 @@ collected f xs x traces now t h s e a =
     e ∙ ap (λ l. l ++ t ∷ []) (h o.0) ∙ ap (λ y. map seat_trace (map f xs) ++ y ∷ []) (s o.1)
     ∙ sym (ap (map seat_trace) (mapped_more f xs x) ∙ mapped_more seat_trace (map f xs) (f x))
 
-pub played_so : {E : Type 0} (turns : ℕ) (views first now : List SeatView) (g h : ChaCha) (begun later : List Moment) (told : Result Bool E)
-    → views ≡ first → g ≡ h → IfOk told (λ spent. Played turns views g begun spent now later)
-    → IfOk told (λ spent. Played turns first h begun spent now later)
-played_so turns views first now g h begun later (Err e) v w t = tt
-played_so turns views first now g h begun later (Ok spent) v w t =
-    subst (λ (q : ChaCha). Played turns first q begun spent now later) w
-    (subst (λ (l : List SeatView). Played turns l g begun spent now later) v t)
+pub played_so : {E : Type 0} (turns : ℕ) (views first now : List SeatView) (g h : ChaCha) (timeouts : List TimeoutLine) (patience left : ℕ) (begun later : List Moment) (told : Result Bool E)
+    → views ≡ first → g ≡ h → IfOk told (λ spent. Played turns views g timeouts patience begun spent now left later)
+    → IfOk told (λ spent. Played turns first h timeouts patience begun spent now left later)
+played_so turns views first now g h timeouts patience left begun later (Err e) v w t = tt
+played_so turns views first now g h timeouts patience left begun later (Ok spent) v w t =
+    subst (λ (q : ChaCha). Played turns first q timeouts patience begun spent now left later) w
+    (subst (λ (l : List SeatView). Played turns l g timeouts patience begun spent now left later) v t)

@@ -2,6 +2,7 @@
 use Rattle.std.proofs.Common.{◌≡◌, ℕ, ◌+◌, ◌*◌, ◌/◌, ◌%◌, ◌^◌, Bool, true, false, cond, List, [], ◌∷◌, map, length, get_or, refl, sym, ap, subst, ◌∙◌, arith, Ok, Err, Result}
 use Rattle.std.proofs.Math.Nat.{mod-add-div, add-mul-mod_self_left}
 use Rattle.fab_base.specs.declared.messages.Message.{Message}
+use Rattle.fault_script.specs.declared.twists.TimeoutLine.{TimeoutLine}
 use Rattle.run_words.specs.declared.logs.Entry.{Entry}
 use Rattle.run_words.specs.declared.movers.Mover.{Mover}
 use Rattle.run_words.specs.declared.logs.Pending.{Pending}
@@ -13,7 +14,7 @@ use Rattle.run_words.proofs.Steps.{IsStep, AreSteps, step_at, steps_made}
 use Rattle.rand_chacha.specs.ChaCha.{ChaCha, next_word, word_at}
 use Rattle.sim_sched.specs.declared.seats.Choice.{Choice}
 use Rattle.sim_sched.specs.Seats.{SeatView, seat_in, seat_steps, all_steps, IsChosen, Finds}
-use Rattle.sim_sched.specs.Simulating.{Acts, IsHeld, IsAt, AreRules, generator_at, word_of}
+use Rattle.sim_sched.specs.Simulating.{Acts, IsAt, IsOpen, AreRules, generator_at, word_of}
 use Rattle.sim_sched.proofs.Picking.{long_map}
 use Rattle.sim_sched.proofs.Bridge.{placed, placed_view, steps_all, acted}
 
@@ -60,23 +61,6 @@ beside_step : (run : Run) (s : Step) → IsBeside (take_step run s) run
 beside_step run (Step.Hear m k c) = beside_hear m k c run
 beside_step run (Step.Give m mover) = beside_give m mover run
 
--- a run that has gone through its lines, of which there were none, stands at a choice
-pub at_choice : (r : Rules) (key : List ℕ) (run : Run) (views : List SeatView) (g : ChaCha) (entries : ℕ) (moments : List Moment)
-    → run.phase ≡ Phase.Lines [] [] → IsHeld r key run views g entries moments → IsAt r key (next r run) views g entries moments
-at_choice r key run views g entries moments p h =
-    subst (λ (y : Run). IsAt r key y views g entries moments) (sym (ap (next_in r run) p))
-    (record {
-      phase = refl;
-      held = record {
-        seated = h.seated;
-        placed = h.placed;
-        counted = h.counted;
-        noted = h.noted;
-        no_lines = refl;
-        no_patience = h.no_patience;
-      };
-    })
-
 abbrev picking : Run → Run
 picking run = again (record run { picks = run.picks + 1 })
 
@@ -88,9 +72,9 @@ next_at : (r : Rules) (run : Run) → run.phase ≡ Phase.Pick → is_spent r ru
 next_at r run p s =
     ap (next_in r run) p ∙ ap (λ b. cond b (ended true run) (pick_from r run (steps r run))) s
 
-pub none_at : (r : Rules) (key : List ℕ) (run : Run) (views : List SeatView) (generator : ChaCha) (entries : ℕ) (moments : List Moment)
-    → IsAt r key run views generator entries moments → length (all_steps views) ≡ 0 → steps r run ≡ []
-none_at r key run views generator entries moments a e =
+pub none_at : (r : Rules) (key : List ℕ) (run : Run) (timeouts : List TimeoutLine) (views : List SeatView) (generator : ChaCha) (entries patience : ℕ) (moments : List Moment)
+    → IsAt r key run timeouts views generator entries patience moments → length (all_steps views) ≡ 0 → steps r run ≡ []
+none_at r key run timeouts views generator entries patience moments a e =
     let q : all_steps views ≡ steps r run = ap all_steps a.held.seated ∙ steps_all run r.makers in
     empty (steps r run) (ap length (sym q) ∙ e)
   where
@@ -103,13 +87,13 @@ abbrev one_on : ChaCha → ChaCha
 one_on g = record g { word_pos = (g.word_pos + 1) % 2 ^ 68 }
 
 -- from a step's number to the choice after it
-picked_of : (r : Rules) (key : List ℕ) (run : Run) (views : List SeatView) (generator : ChaCha) (entries : ℕ) (moments : List Moment) (number place own : ℕ) (choice : Choice) (now : List SeatView) (grew : Bool) (l : List Step)
-    → steps r run ≡ l → (s : Step) (rest : List Step) → l ≡ s ∷ rest → AreRules r key r.turns → IsAt r key run views generator entries moments
+picked_of : (r : Rules) (key : List ℕ) (run : Run) (timeouts : List TimeoutLine) (views : List SeatView) (generator : ChaCha) (entries patience : ℕ) (moments : List Moment) (number place own : ℕ) (choice : Choice) (now : List SeatView) (grew : Bool) (l : List Step)
+    → steps r run ≡ l → (s : Step) (rest : List Step) → l ≡ s ∷ rest → AreRules r key r.turns → IsAt r key run timeouts views generator entries patience moments
     → number ≡ r.word run.picks % length l → Finds views number place own
     → ((v : SeatView) (d : Step) → get_or views place v ≡ v → IsChosen v choice (get_or (seat_steps v) own d))
     → ((v : SeatView) → get_or views place v ≡ v → Acts place choice v views now grew)
-    → IsAt r key (next r (pick_from r run l)) now (one_on generator) (entries + cond grew 1 0) moments
-picked_of r key run views generator entries moments number place own choice now grew l q s rest z u a n f x h =
+    → IsOpen r key (pick_from r run l) timeouts now (one_on generator) (entries + cond grew 1 0) patience moments
+picked_of r key run timeouts views generator entries patience moments number place own choice now grew l q s rest z u a n f x h =
     let e : all_steps views ≡ l = ap all_steps a.held.seated ∙ steps_all run r.makers ∙ q in
     let size : length views ≡ length r.makers = ap length a.held.seated ∙ long_map (seat_in run) r.makers in
     let w = f.within in
@@ -132,50 +116,52 @@ picked_of r key run views generator entries moments number place own choice now 
     let goal_run : pick_from r run l ≡ take_step (picking run) st =
     ap (pick_from r run) z ∙ ap (λ (k : List Step). take_step (picking run) (get_or k (r.word run.picks % length k) s)) (sym z)
     ∙ ap (λ k. take_step (picking run) (get_or l k s)) (sym n) in
-    subst (λ (y : Run). IsAt r key (next r y) now (one_on generator) (entries + cond grew 1 0) moments) (sym goal_run)
-    (at_choice r key (take_step (picking run) st) now (one_on generator) (entries + cond grew 1 0) moments
-    (b.phase ∙ ap (λ k. Phase.Lines [] k) a.held.no_lines)
+    subst (λ (y : Run). IsOpen r key y timeouts now (one_on generator) (entries + cond grew 1 0) patience moments) (sym goal_run)
     (record {
-      seated = t.0;
-      placed =
-          ap one_on a.held.placed
-          ∙ ap (λ k. record (generator_at key run.picks) { word_pos = k }) (mod_more run.picks (2 ^ 68))
-          ∙ ap (λ k. generator_at key k) (sym b.picks);
-      counted = ap (λ k. k + cond grew 1 0) a.held.counted ∙ sym t.1;
-      noted = a.held.noted ∙ sym b.moments;
-      no_lines = b.lines ∙ a.held.no_lines;
-      no_patience = b.left ∙ a.held.no_patience;
-    }))
+      lines = run.lines;
+      phase = b.phase;
+      are = a.lines;
+      held = record {
+        seated = t.0;
+        placed =
+            ap one_on a.held.placed
+            ∙ ap (λ k. record (generator_at key run.picks) { word_pos = k }) (mod_more run.picks (2 ^ 68))
+            ∙ ap (λ k. generator_at key k) (sym b.picks);
+        counted = ap (λ k. k + cond grew 1 0) a.held.counted ∙ sym t.1;
+        left = a.held.left ∙ sym b.left;
+        noted = a.held.noted ∙ sym b.moments;
+      };
+    })
 
-pub picked : (r : Rules) (key : List ℕ) (run : Run) (views : List SeatView) (generator : ChaCha) (entries : ℕ) (moments : List Moment) (number place own : ℕ) (choice : Choice) (now : List SeatView) (grew : Bool)
-    → AreRules r key r.turns → IsAt r key run views generator entries moments → is_spent r run ≡ false → (length (all_steps views) ≡ 0 → ⊥)
+pub picked : (r : Rules) (key : List ℕ) (run : Run) (timeouts : List TimeoutLine) (views : List SeatView) (generator : ChaCha) (entries patience : ℕ) (moments : List Moment) (number place own : ℕ) (choice : Choice) (now : List SeatView) (grew : Bool)
+    → AreRules r key r.turns → IsAt r key run timeouts views generator entries patience moments → is_spent r run ≡ false → (length (all_steps views) ≡ 0 → ⊥)
     → number ≡ word_of key run.picks % length (all_steps views) → Finds views number place own
     → ((v : SeatView) (d : Step) → get_or views place v ≡ v → IsChosen v choice (get_or (seat_steps v) own d))
     → ((v : SeatView) → get_or views place v ≡ v → Acts place choice v views now grew)
-    → IsAt r key (next r (next r run)) now (one_on generator) (entries + cond grew 1 0) moments
-picked r key run views generator entries moments number place own choice now grew u a s some n f x h =
-    subst (λ (y : Run). IsAt r key (next r y) now (one_on generator) (entries + cond grew 1 0) moments) (sym (next_at r run a.phase s))
+    → IsOpen r key (next r run) timeouts now (one_on generator) (entries + cond grew 1 0) patience moments
+picked r key run timeouts views generator entries patience moments number place own choice now grew u a s some n f x h =
+    subst (λ (y : Run). IsOpen r key y timeouts now (one_on generator) (entries + cond grew 1 0) patience moments) (sym (next_at r run a.phase s))
     (go (steps r run) refl)
   where
-    go : (l : List Step) → steps r run ≡ l → IsAt r key (next r (pick_from r run l)) now (one_on generator) (entries + cond grew 1 0) moments
+    go : (l : List Step) → steps r run ≡ l → IsOpen r key (pick_from r run l) timeouts now (one_on generator) (entries + cond grew 1 0) patience moments
     go [] q = absurd (some (ap length (ap all_steps a.held.seated ∙ steps_all run r.makers ∙ q)))
     go (y ∷ rest) q =
         let m : number ≡ r.word run.picks % length (y ∷ rest) =
         n ∙ ap (λ k. k % length (all_steps views)) (sym (u.word_so run.picks))
         ∙ ap (λ (k : List Step). r.word run.picks % length k) (ap all_steps a.held.seated ∙ steps_all run r.makers ∙ q) in
-        picked_of r key run views generator entries moments number place own choice now grew (y ∷ rest) q y rest refl u a m f x h
+        picked_of r key run timeouts views generator entries patience moments number place own choice now grew (y ∷ rest) q y rest refl u a m f x h
 
-pub picked_told : (r : Rules) (key : List ℕ) (run : Run) (views : List SeatView) (g h : ChaCha) (entries : ℕ) (moments : List Moment) (word count number place own : ℕ) (choice : Choice) (now : List SeatView) (grew : Bool)
-    → AreRules r key r.turns → IsAt r key run views g entries moments → is_spent r run ≡ false → count ≡ length (all_steps views)
+pub picked_told : (r : Rules) (key : List ℕ) (run : Run) (timeouts : List TimeoutLine) (views : List SeatView) (g h : ChaCha) (entries patience : ℕ) (moments : List Moment) (word count number place own : ℕ) (choice : Choice) (now : List SeatView) (grew : Bool)
+    → AreRules r key r.turns → IsAt r key run timeouts views g entries patience moments → is_spent r run ≡ false → count ≡ length (all_steps views)
     → (count ≡ 0 → ⊥) → (word, h) ≡ next_word 4 g → number ≡ word % count → Finds views number place own
     → ((v : SeatView) (d : Step) → get_or views place v ≡ v → IsChosen v choice (get_or (seat_steps v) own d))
     → ((v : SeatView) → get_or views place v ≡ v → Acts place choice v views now grew)
-    → IsAt r key (next r (next r run)) now h (entries + cond grew 1 0) moments
-picked_told r key run views g h entries moments word count number place own choice now grew u a s k some w n f x acts =
+    → IsOpen r key (next r run) timeouts now h (entries + cond grew 1 0) patience moments
+picked_told r key run timeouts views g h entries patience moments word count number place own choice now grew u a s k some w n f x acts =
     let the_word : word ≡ word_of key run.picks = ap (λ (p : ℕ × ChaCha). p.0) w
     ∙ ap (λ (q : ChaCha). word_at 4 q.key q.stream q.word_pos) a.held.placed in
     let after : h ≡ one_on g = ap (λ (p : ℕ × ChaCha). p.1) w in
     let m : number ≡ word_of key run.picks % length (all_steps views) = n ∙ ap (λ j. j % count) the_word
     ∙ ap (λ j. word_of key run.picks % j) k in
-    subst (λ (q : ChaCha). IsAt r key (next r (next r run)) now q (entries + cond grew 1 0) moments) (sym after)
-    (picked r key run views g entries moments number place own choice now grew u a s (λ z. some (k ∙ z)) m f x acts)
+    subst (λ (q : ChaCha). IsOpen r key (next r run) timeouts now q (entries + cond grew 1 0) patience moments) (sym after)
+    (picked r key run timeouts views g entries patience moments number place own choice now grew u a s (λ z. some (k ∙ z)) m f x acts)

@@ -6,7 +6,7 @@ use Rattle.fab_base.specs.declared.ids.ReplicaId.{ReplicaId}
 use Rattle.fault_script.specs.declared.scripts.Script.{Script}
 use Rattle.bft_verify.specs.Ring.{Ring}
 use Rattle.run_words.specs.Journal.{Maker}
-use Rattle.run_words.specs.Runs.{Rules, trace_of}
+use Rattle.run_words.specs.Runs.{Rules, Line, IsSchedule, trace_of}
 use Rattle.run_words.specs.Lawful.{Sane, Lawful, Settled, entries_of}
 use Rattle.run_words.specs.declared.logs.Transcript.{Transcript}
 use Rattle.run_words.specs.declared.logs.Entry.{Entry}
@@ -15,21 +15,20 @@ use Rattle.run_words.specs.declared.logs.Trace.{Trace}
 use Rattle.rand_chacha.specs.ChaCha.{key_of}
 use Rattle.copy_reader.specs.Reading.{IsMadeWith}
 use Rattle.sim_sched.specs.Seats.{SeatView}
-use Rattle.sim_sched.specs.Simulating.{word_of}
+use Rattle.sim_sched.specs.Simulating.{word_of, AreLines}
 
 -- the generator's key: the script's seed, and zeros
 abbrev pub seed_bytes : ℕ → List ℕ
 seed_bytes seed = to_be_bytes w64 seed ++ replicate 24 0
 
--- the rules of a run of a script without timeout lines and without patience: the generator's words and the limit of entries are the
--- script's
-abbrev pub rules_of : Script → List Maker → List (ReplicaId × Pending) → Rules
-rules_of script makers requests = record {
+-- the rules of a run of a script with these lines: its patience, the generator's words and the limit of entries are the script's
+abbrev pub rules_of : Script → List Maker → List Line → List (ReplicaId × Pending) → Rules
+rules_of script makers lines requests = record {
   script = script;
   makers = makers;
   requests = requests;
-  lines = [];
-  patience = 0;
+  lines = lines;
+  patience = script.patience;
   word = word_of (key_of (seed_bytes script.seed));
   turns = script.turns;
 }
@@ -53,3 +52,12 @@ seat_trace s = trace_of s.maker s.journal s.turned
 -- with sane rules a run is lawful; it is settled where it wasn't cut off, and has as many entries as are allowed where it was
 abbrev pub IsLawfulRun : Rules → Transcript → Bool → Type 0
 IsLawfulRun r t spent = Sane r → Lawful r t × (spent ≡ false → Settled r t) × (spent ≡ true → r.turns ≤ entries_of t)
+
+-- for whatever lines are those of the script's timeouts: the transcript is that of the one run, which is lawful
+abbrev pub IsRunBy : Script → List Maker → List (ReplicaId × Pending) → Transcript → Bool → Type 0
+IsRunBy script makers requests t spent =
+    (lines : List Line) → AreLines makers script.timeouts lines → IsSchedule (rules_of script makers lines requests) t spent
+
+abbrev pub IsLawfulBy : Script → List Maker → List (ReplicaId × Pending) → Transcript → Bool → Type 0
+IsLawfulBy script makers requests t spent =
+    (lines : List Line) → AreLines makers script.timeouts lines → IsLawfulRun (rules_of script makers lines requests) t spent

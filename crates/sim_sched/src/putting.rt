@@ -20,7 +20,7 @@ fn same(a: ReplicaId, b: ReplicaId) -> bool
 }
 
 /// The place of an id.
-fn place_of(ids: &[ReplicaId], to: ReplicaId) -> Option<usize>
+pub(crate) fn place_of(ids: &[ReplicaId], to: ReplicaId) -> Option<usize>
     ensures { MatchOption result (IsNone to ids.now) (λ place. (place < length ids.now)
         × (is_same to (slice_index_or ids.now place to) ≡ true)) }
 {

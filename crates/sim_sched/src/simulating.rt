@@ -1,12 +1,11 @@
 //! The whole run of a script.
 ghost use Rattle.std.specs.Prelude.{◌≡◌, ℕ, false, [], map, length, IfOk};
-ghost use Rattle.run_words.specs.Runs.{IsSchedule};
 ghost use Rattle.rand_chacha.specs.ChaCha.{of_seed};
 ghost use Rattle.sim_sched.specs.Seats.{seen, receive, AllOpen};
 ghost use Rattle.sim_sched.specs.Simulating.{IsReady};
 ghost use Rattle.sim_sched.specs.Playing.{Played};
 ghost use Rattle.sim_sched.specs.Putting.{AreDistinct};
-ghost use Rattle.sim_sched.specs.Whole.{IsLawfulRun, seed_bytes, rules_of, AreFresh, AreMadeWith, empty_seat, seat_trace};
+ghost use Rattle.sim_sched.specs.Whole.{IsRunBy, IsLawfulBy, seed_bytes, AreFresh, AreMadeWith, empty_seat, seat_trace};
 
 use crate::playing::play;
 use crate::putting::deliver_requests;
@@ -14,7 +13,7 @@ use crate::seats::Seat;
 use bft_verify::Keyring;
 use copy_reader::Reader;
 use fab_base::{Members, NoMemory, ReplicaId, Rows};
-use fault_script::Script;
+use fault_script::{Script, TimeoutLine};
 use rand_chacha::ChaCha8Rng;
 use rand_core::SeedableRng;
 use run_words::{Moments, Party, Pending, Trace, Traces, Transcript};
@@ -73,8 +72,8 @@ impl<P: Party> Seat<P> {
     }
 }
 
-/// The run at seats that stand ready: the requests come, and then it is played; its quiet moments are added to those that are given.
-/// Whether it was cut off.
+/// The run at seats that stand ready: the requests come, and then it is played; it uses up timeouts and patience, and its quiet moments are
+/// added to those that are given. Whether it was cut off.
 fn run_seats<P: Party>(
     seats: &mut [Seat<P>],
     ids: &[ReplicaId],
@@ -82,23 +81,35 @@ fn run_seats<P: Party>(
     reader: &Reader,
     turns: u64,
     seed: u64,
+    lines: &mut Vec<TimeoutLine>,
+    patience: &mut u32,
     moments: &mut Moments,
 ) -> Result<bool, NoMemory>
     requires ready { IsReady reader.now.members.now reader.now.ring.now ids.now (map (seen P.made P.journal P.shut) seats.old) }
     requires apart { AreDistinct ids.now }
     ensures open { IfOk result (λ spent. AllOpen (map (seen P.made P.journal P.shut) seats.new)) }
     ensures played { IfOk result (λ spent. Played turns (map (receive requests.items)
-        (map (seen P.made P.journal P.shut) seats.old)) (of_seed (seed_bytes seed)) moments.old spent
-        (map (seen P.made P.journal P.shut) seats.new) moments.new) }
+        (map (seen P.made P.journal P.shut) seats.old)) (of_seed (seed_bytes seed)) lines.old.items patience.old moments.old spent
+        (map (seen P.made P.journal P.shut) seats.new) patience.new moments.new) }
 {
     deliver_requests(seats, ids, requests)?;
     let mut generator = ChaCha8Rng::from_seed(seed_of(seed));
-    play(seats, ids, reader, turns, &mut generator, moments)
+    play(
+        seats,
+        ids,
+        reader,
+        turns,
+        &mut generator,
+        lines,
+        patience,
+        moments,
+    )
 }
 
 /// Runs a script. The answer is the transcript of the one run that its rules fix, and whether the run was cut off because the journals
-/// together had the script's `turns` entries; want of memory, of this call or of a party, is the one other answer. The rules have neither
-/// timeouts nor patience: the run has ended once no nudge moves a replica.
+/// together had the script's `turns` entries; want of memory, of this call or of a party, is the one other answer. The rules have the
+/// script's timeouts, each given to the party with its replica's id, and the script's patience; a timeout of a replica that isn't there comes
+/// to nothing.
 ///
 /// `ids` are those of the parties, in the order of replicas; all are apart, each party was made with these members and this ring, has no
 /// entry yet and is open. `requests` are the signed requests of the script as copies on their way, each with its receiver, in the order
@@ -117,8 +128,8 @@ pub fn simulate<P: Party>(
     requires apart { AreDistinct ids.now }
     requires fresh { AreFresh P.journal P.shut parties.items }
     requires made { AreMadeWith P.made members.now ring.now parties.items }
-    ensures schedule { IfOk result (λ told. IsSchedule (rules_of script (map P.made parties.items) requests.items) told.0 told.1) }
-    ensures lawful { IfOk result (λ told. IsLawfulRun (rules_of script (map P.made parties.items) requests.items) told.0 told.1) }
+    ensures schedule { IfOk result (λ told. IsRunBy script (map P.made parties.items) requests.items told.0 told.1) }
+    ensures lawful { IfOk result (λ told. IsLawfulBy script (map P.made parties.items) requests.items told.0 told.1) }
 {
     let mut seats = seat_all(alloc, parties)?;
     let reader = Reader {
@@ -127,6 +138,8 @@ pub fn simulate<P: Party>(
         ring,
     };
     let turns = u64::from(script.turns);
+    let mut lines = script.timeouts.as_slice().to_vec(alloc)?;
+    let mut patience = script.patience;
     let mut moments = Rows::new(alloc);
     let spent = run_seats(
         &mut seats,
@@ -135,6 +148,8 @@ pub fn simulate<P: Party>(
         &reader,
         turns,
         script.seed,
+        &mut lines,
+        &mut patience,
         &mut moments,
     )?;
     let traces = collect(alloc, seats)?;
@@ -142,7 +157,7 @@ pub fn simulate<P: Party>(
         script,
         traces,
         moments,
-        timeouts_left: 0,
+        timeouts_left: patience,
     };
     Ok((transcript, spent))
 }

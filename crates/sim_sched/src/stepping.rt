@@ -4,10 +4,10 @@ ghost use Rattle.run_words.specs.Journal.{moves};
 ghost use Rattle.run_words.specs.Runs.{Rules, Run, next, steps, is_spent, Step};
 ghost use Rattle.sim_sched.specs.Seats.{SeatView, seen, receive, copies, AllOpen, seat_steps, IsChosen, IsPossible};
 ghost use Rattle.sim_sched.specs.Putting.{AreDistinct, ids_of, given_at, heard_at};
-ghost use Rattle.sim_sched.specs.Simulating.{Acts, AllMadeWith, IsReady, Picked};
+ghost use Rattle.sim_sched.specs.Simulating.{Acts, AllMadeWith, IsReady, Picked, IsTimed};
 
 use crate::choosing::{count_all, find};
-use crate::putting::deliver;
+use crate::putting::{deliver, place_of};
 use crate::seats::{Choice, Seat};
 use copy_reader::Reader;
 use fab_base::{NoMemory, ReplicaId};
@@ -36,6 +36,25 @@ pub(crate) fn give_at<P: Party>(
     let from = ids[place];
     deliver(seats, ids, from, parcels)?;
     Ok(grew)
+}
+
+/// Gives a timeout to a replica. Whether an entry was made; none is where nobody has its id.
+pub(crate) fn time_out<P: Party>(
+    seats: &mut [Seat<P>],
+    ids: &[ReplicaId],
+    alloc: Global,
+    replica: ReplicaId,
+) -> Result<bool, NoMemory>
+    requires named { ids.now ≡ ids_of (map (seen P.made P.journal P.shut) seats.old) }
+    requires apart { AreDistinct ids.now }
+    requires open { AllOpen (map (seen P.made P.journal P.shut) seats.old) }
+    ensures { IfOk result (λ grew. IsTimed replica (map (seen P.made P.journal P.shut) seats.old)
+        (map (seen P.made P.journal P.shut) seats.new) grew) }
+{
+    match place_of(ids, replica) {
+        None => Ok(false),
+        Some(place) => give_at(seats, ids, alloc, place, Mover::Timeout),
+    }
 }
 
 /// Hears a copy at a place. Whether an entry was made.

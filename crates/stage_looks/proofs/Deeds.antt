@@ -1,13 +1,13 @@
 -- What one act of each kind of worker does.
-use Rattle.std.proofs.Common.{◌≡◌, ◌≢◌, ℕ, Bool, true, false, cond, List, ◌++◌, length, true≢false, refl, sym, ap, ◌∙◌, append-nil}
+use Rattle.std.proofs.Common.{◌≡◌, ◌≢◌, ℕ, Bool, true, false, cond, List, [], ◌∷◌, ◌++◌, length, Option, Some, None, true≢false, refl, sym, ap, ◌∙◌, append-nil}
 use Rattle.turn_lock.specs.Numbers.{has, least}
-use Rattle.turn_lock.specs.Histories.{entries}
+use Rattle.turn_lock.specs.Histories.{entries, with_entry, with_mine}
 use Rattle.turn_lock.specs.Views.{own, Knows}
 use Rattle.turn_lock.specs.declared.known.Known.{Known}
 use Rattle.turn_lock.proofs.SeatRows.{has_least}
 use Rattle.fab_base.specs.declared.answers.Answer.{Answer}
 use Rattle.run_words.specs.Journal.{Maker, walk, added, signed_of, is_blocked, moves, entry_of as entry_by}
-use Rattle.run_words.specs.Acts.{act_of, told_of, told_of_emit, told_entry, told_parcels}
+use Rattle.run_words.specs.Acts.{would, made_by, act_of, told_of, told_of_emit, told_entry, told_parcels}
 use Rattle.run_words.specs.Acts as acts
 use Rattle.run_words.specs.declared.logs.Entry.{Entry}
 use Rattle.run_words.specs.declared.movers.Mover.{Mover}
@@ -16,6 +16,7 @@ use Rattle.run_words.specs.declared.party.Told.{Told}
 use Rattle.run_words.proofs.Tellings.{tells}
 use Rattle.party_turn.specs.Playing.{Plays}
 use Rattle.party_turn.specs.Turns.{Acts}
+use Rattle.party_turn.proofs.Entering.{does_next, not_same}
 use Rattle.party_turn.specs.declared.answered.Answered.{Answered}
 use Rattle.turn_laws.specs.Workers.{Kind, kind_of}
 use Rattle.turn_laws.specs.Doings.{hearings, heard_by, is_refused, put_of}
@@ -46,6 +47,52 @@ nothing_by m journal answer true b e =
 nothing_sent : (m : Maker) (journal : List Entry) (answer : Answer) (now : List Entry) → acts.Acted m journal Act.Emit (Told.Core answer) now
     → told_entry (Told.Core answer) ≡ false
 nothing_sent m journal answer now h = nothing_by m journal answer (moves m journal Mover.Emit) refl h.tells
+
+-- ---- what an act enters
+
+made_is : (m : Maker) (journal : List Entry) (mover : Mover) → made_by m journal (act_of mover) ≡ entry_by m journal mover
+made_is m journal Mover.Batch = refl
+made_is m journal Mover.Nudge = refl
+made_is m journal Mover.Emit = refl
+made_is m journal Mover.Execute = refl
+made_is m journal Mover.Checkpoint = refl
+made_is m journal Mover.Timeout = refl
+
+abbrev entry_if : Bool → Entry → Option Entry
+entry_if b x = cond b (Some x) None
+
+-- an act enters nothing where what is told is of no entry
+none_by : (m : Maker) (journal : List Entry) (act : Act) (told : Told) (b : Bool) → would m journal act ≡ b → told_entry told ≡ b
+    → journal ≡ cond b (journal ++ made_by m journal act ∷ []) journal → None ≡ entry_if (told_entry told) (made_by m journal act)
+none_by m journal act told true w t g = not_same journal (made_by m journal act) (sym g)
+none_by m journal act told false w t g = sym (ap (λ b. entry_if b (made_by m journal act)) t)
+
+-- and its entry where it is
+some_by : (m : Maker) (journal : List Entry) (act : Act) (told : Told) (x : Entry) (b : Bool) → would m journal act ≡ b → told_entry told ≡ b
+    → journal ++ x ∷ [] ≡ cond b (journal ++ made_by m journal act ∷ []) journal → x ≡ made_by m journal act
+    → Some x ≡ entry_if (told_entry told) (made_by m journal act)
+some_by m journal act told x true w t g e = ap (λ y. Some y) e ∙ sym (ap (λ b. entry_if b (made_by m journal act)) t)
+some_by m journal act told x false w t g e = not_same journal x g
+
+done_by : (m : Maker) (journal : List Entry) (act : Act) (told : Told) (e : Option Entry) → acts.Does m journal act told (with_entry journal e)
+    → e ≡ entry_if (told_entry told) (made_by m journal act)
+done_by m journal act told None d =
+    none_by m journal act told (would m journal act) refl (ap told_entry d.tells ∙ tells m journal act) d.grows
+done_by m journal act told (Some x) d =
+    some_by m journal act told x (would m journal act) refl (ap told_entry d.tells ∙ tells m journal act) d.grows (does_next m journal act told x d).1
+
+acted_by : (m : Maker) (journal : List Entry) (act : Act) (told : Told) (e : Option Entry) → acts.Acted m journal act told (with_entry journal e)
+    → e ≡ entry_if (told_entry told) (made_by m journal act)
+acted_by m journal act Told.NoMemory None h = refl
+acted_by m journal act Told.NoMemory (Some x) h = not_same journal x h
+acted_by m journal act (Told.Core answer) e h = done_by m journal act (Told.Core answer) e h
+acted_by m journal act (Told.Out parcels) e h = done_by m journal act (Told.Out parcels) e h
+acted_by m journal act (Told.KeySpent used) e h = done_by m journal act (Told.KeySpent used) e h
+
+grown : (m : Maker) (journal : List Entry) (mover : Mover) (told : Told) (e : Option Entry) → acts.Acted m journal (act_of mover) told (with_entry journal e)
+    → e ≡ entry_if (told_entry told) (entry_by m journal mover)
+grown m journal mover told e h =
+    acted_by m journal (act_of mover) told e h ∙ ap (λ x. entry_if (told_entry told) x) (made_is m journal mover)
 
 module _ {P : Type 0} (made : P → Maker) (first : P) where
   -- ---- hearing
@@ -93,12 +140,18 @@ module _ {P : Type 0} (made : P → Maker) (first : P) where
 
   -- ---- what is done of its own accord
 
+  own_grown : (mover : Mover) (answer : Answered) (v w : Known Entry P) (moved : Bool) → told_entry answer.told ≡ moved → (h : Acts made first v (act_of mover) answer w)
+      → own w ≡ with_mine (own v) (least v.numbers) (cond moved (Some (entry_by (made first) (entries h.0) mover)) None)
+  own_grown mover answer v w moved m h =
+      let e = grown (made first) (entries h.0) mover answer.told h.1 h.3.acted in
+      h.5 ∙ ap (with_mine (own v) (least v.numbers)) (e ∙ ap (λ b. cond b (Some (entry_by (made first) (entries h.0) mover)) None) m)
+
   did_told : (mover : Mover) (answer : Answered) (v w : Known Entry P) → Acts made first v (act_of mover) answer w
       → (moved refused : Bool) → told_entry answer.told ≡ moved → is_refused answer.told ≡ refused
       → Does (made first) mover (cond moved Did.Moved (cond refused Did.Lost (Did.Nothing answer.entries))) v w
-  did_told mover answer v w h true refused m r = tt
-  did_told mover answer v w h false true m r = tt
-  did_told mover answer v w h false false m r = λ log s c. still made first v w mover answer log h m r s c
+  did_told mover answer v w h true refused m r = (entries h.0, own_grown mover answer v w true m h)
+  did_told mover answer v w h false true m r = own_grown mover answer v w false m h
+  did_told mover answer v w h false false m r = (own_grown mover answer v w false m h, λ log s c. still made first v w mover answer log h m r s c)
 
   pub does_own : (mover : Mover) (answer : Answered) (v w : Known Entry P) → Acts made first v (act_of mover) answer w
       → Does (made first) mover (did_of answer.told answer.entries) v w

@@ -1,14 +1,16 @@
 -- What one act of each kind of worker does to what its pass knows.
-use Rattle.std.specs.Prelude.{◌≡◌, ℕ, false, cond, List, [], ◌∷◌, ◌++◌, length}
+use Rattle.std.specs.Prelude.{◌≡◌, ◌⊎◌, ℕ, false, cond, List, [], ◌∷◌, ◌++◌, length}
 use Rattle.turn_lock.specs.Histories.{IsStartOf, entries}
 use Rattle.turn_lock.specs.Views.{own}
 use Rattle.turn_lock.specs.declared.known.Known.{Known}
-use Rattle.run_words.specs.Journal.{Maker, moves}
+use Rattle.turn_lock.specs.Numbers.{least}
+use Rattle.run_words.specs.Journal.{Maker, moves, entry_of as entry_by}
 use Rattle.run_words.specs.Acts.{told_entry}
 use Rattle.run_words.specs.declared.logs.Entry.{Entry}
 use Rattle.run_words.specs.declared.movers.Mover.{Mover}
 use Rattle.run_words.specs.declared.party.Act.{Act}
 use Rattle.run_words.specs.declared.party.Told.{Told}
+use Rattle.stage_workers.specs.declared.look.Look.{Look}
 use Rattle.turn_laws.specs.Workers.{Kind, AreOf}
 use Rattle.turn_laws.specs.Doings.{hearings, put_of, is_refused}
 use Rattle.stage_looks.specs.Items.{entry_of}
@@ -59,8 +61,18 @@ module _ {P : Type 0} where
   Sends m Sent.Lost v w = put_of m w.numbers w.seen ≡ put_of m v.numbers v.seen
   Sends m Sent.Busy v w = w ≡ v
 
+  -- just one entry more is its own, the mover's
+  abbrev pub DoesOne : Maker → Mover → Known Entry P → Known Entry P → Type 0
+  DoesOne m mover v w = (journal : List Entry) × (own w ≡ own v ++ (least v.numbers, entry_by m journal mover) ∷ [])
+
   abbrev pub Does : Maker → Mover → Did → Known Entry P → Known Entry P → Type 0
-  Does m mover Did.Moved v w = Unit {0}
-  Does m mover (Did.Nothing count) v w = IsStill m mover count w
-  Does m mover Did.Lost v w = Unit {0}
+  Does m mover Did.Moved v w = DoesOne m mover v w
+  Does m mover (Did.Nothing count) v w = (own w ≡ own v) × IsStill m mover count w
+  Does m mover Did.Lost v w = own w ≡ own v
   Does m mover Did.Busy v w = w ≡ v
+
+  -- what a look enters: where it moved, one such entry, or none where another worker had the turn
+  abbrev pub Enters : Maker → Mover → Look → Known Entry P → Known Entry P → Type 0
+  Enters m mover Look.Moved v w = (own w ≡ own v) ⊎ DoesOne m mover v w
+  Enters m mover Look.Idle v w = own w ≡ own v
+  Enters m mover Look.NoMemory v w = own w ≡ own v

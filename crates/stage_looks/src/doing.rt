@@ -59,6 +59,7 @@ fn did_of(answer: Answered) -> Did
 
 /// What a replica does of its own accord, but for sending, in one claim of the turn: Batch, Nudge, Execute, Checkpoint or Timeout.
 ///
+/// `Moved` comes where it did so: the pass has just this one entry more of its own. With every other answer it has none more.
 /// `Nothing` comes where the replica could do nothing after a beginning of its history with so many entries; where that turns out to be the
 /// whole of it, the replica has nothing of this kind to do. `Lost` comes where memory was refused, now or before.
 pub fn advance<P: Party>(turn: &Turn<Acting<P>>, pass: &mut Pass<Acting<P>>, mover: Mover) -> Did

@@ -6,7 +6,7 @@ ghost use Rattle.turn_lock.specs.Passes.{view, numbers, first_machine};
 ghost use Rattle.run_words.specs.declared.movers.Mover as movers;
 ghost use Rattle.party_turn.specs.Turns.{PartyTurn, IsPartyPass};
 ghost use Rattle.stage_workers.specs.declared.look.Look.TheVariants.{Idle};
-ghost use Rattle.stage_looks.specs.Acts.{IsStill};
+ghost use Rattle.stage_looks.specs.Acts.{IsStill, Enters};
 ghost use Rattle.stage_looks.specs.Moving.{FitsMover};
 
 use crate::doing::{Did, advance};
@@ -45,12 +45,14 @@ impl<P: Party> MoverHand<P> {
     /// One look: it does what it can, in one claim of the turn.
     ///
     /// `Idle` comes where there was nothing to do after as many entries as `told` then says, and `NoMemory` where memory was refused, now or
-    /// before. Where another worker has the turn it rests for a moment, and answers `Moved`.
+    /// before. Where another worker has the turn it rests for a moment, and answers `Moved`. It makes one entry of its own at most, and only
+    /// where it answers `Moved` (`enters`).
     pub fn look(&mut self, turn: &Turn<Acting<P>>) -> Look
         requires fits { FitsMover P.made turn.now self.old }
         ensures fits { FitsMover P.made turn.now self.new }
         ensures same { (numbers self.new.act ≡ numbers self.old.act) × (self.new.mover ≡ self.old.mover) }
         ensures idle { result ≡ Idle → IsStill (P.made (first_machine turn.now).first) self.new.mover self.new.told (view self.new.act) }
+        ensures enters { Enters (P.made (first_machine turn.now).first) self.new.mover result (view self.old.act) (view self.new.act) }
     {
         match advance(turn, &mut self.act, self.mover) {
             Did::Moved => Look::Moved,

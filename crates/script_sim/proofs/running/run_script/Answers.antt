@@ -1,6 +1,5 @@
 use Rattle.std.proofs.Common.{rules, ◌≡◌, refl}
 use Rattle.audit_laws.proofs.Sanity.{sane}
-use Rattle.run_worlds.proofs.Untroubled.{fine_timeouts}
 use Rattle.script_keys.specs.Keys.{replicas_of}
 use Rattle.script_keys.specs.Requests.{copies_of}
 use Rattle.script_sim.specs.Schedules.{logs_of}
@@ -16,7 +15,7 @@ simulate-requires-clause-named c =
 pub simulate-requires-clause-apart : goal.simulate-requires-clause-apart
 simulate-requires-clause-apart c =
     let ids : c.as_slice-6.result.now ≡ replicas_of c.args.script = search rules in
-    distinct c.args.script c.as_slice-6.result.now (sane c.args.script c.requires (fine_timeouts c.args.script)).apart ids
+    distinct c.args.script c.as_slice-6.result.now (sane c.args.script c.requires).apart ids
 
 pub simulate-requires-clause-fresh : goal.simulate-requires-clause-fresh
 simulate-requires-clause-fresh c =
@@ -34,7 +33,7 @@ returns-clause-schedule c =
     let logs : c.in_ok-logs.logs.items ≡ logs_of c.args.script = search rules in
     let copies : c.into_vec-2.result.items ≡ copies_of c.args.script = search rules in
     scheduled made journal shut c.args.script (made_as c.args.script) (λ i. refl) (λ i. refl) c.in_ok-logs.logs.items c.into_vec-2.result.items
-    c.in_ok-transcript.transcript c.in_ok-transcript._spent logs copies c.in_ok-transcript.ensures.schedule
+    c.in_ok-transcript.transcript c.in_ok-transcript._spent logs copies c.requires c.in_ok-transcript.ensures.schedule
 
 pub returns-clause-run : goal.returns-clause-run
 returns-clause-run c =

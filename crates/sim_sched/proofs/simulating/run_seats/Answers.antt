@@ -13,6 +13,6 @@ play-requires-clause-ready g c =
 pub returns : goal.returns
 returns g c = record {
   «open» = c.play.ensures.open;
-  played = played_so c.args.turns _ _ _ _ _ _ _ c.play.result c.in_ok-deliver_requests.ensures
+  played = played_so c.args.turns _ _ _ _ _ _ _ _ _ _ c.play.result c.in_ok-deliver_requests.ensures
       (c.from_seed-generator.ensures ∙ ap of_seed c.seed_of.ensures) c.play.ensures.played;
 }

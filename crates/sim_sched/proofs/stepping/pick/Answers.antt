@@ -10,7 +10,7 @@ use Rattle.sim_sched.proofs.stepping.pick.Goals as goal
 
 pub returns-then-count-eq0-clause-picked : goal.returns-then-count-eq0-clause-picked
 returns-then-count-eq0-clause-picked g c =
-    λ r key run entries moments u a s. (none_at r key run _ _ entries moments a (sym c.count_all-count.ensures ∙ c.if-count-eq0.true), refl, refl)
+    λ r key run timeouts entries patience moments u a s. (none_at r key run timeouts _ _ entries patience moments a (sym c.count_all-count.ensures ∙ c.if-count-eq0.true), refl, refl)
 
 pub choice-choice-requires-clause-open : goal.choice-choice-requires-clause-open
 choice-choice-requires-clause-open g c =
@@ -41,11 +41,11 @@ returns-clause-ready g c =
 
 pub returns-clause-picked : goal.returns-clause-picked
 returns-clause-picked g c =
-    λ r key run entries moments u a s.
+    λ r key run timeouts entries patience moments u a s.
     let f = seen g.P.Party.made g.P.Party.journal g.P.Party.shut in
     let n : length (map f c.args.seats.now) ≡ length c.args.seats.now = long_map f c.args.seats.now in
     let w = c.find-place.ensures.within in
-    picked_told r key run _ _ _ entries moments c.next_word-word.result c.count_all-count.result _ c.find-place.result.0 c.find-place.result.1
+    picked_told r key run timeouts _ _ _ entries patience moments c.next_word-word.result c.count_all-count.result _ c.find-place.result.0 c.find-place.result.1
     c.choice-choice.result _ _
     u a s c.count_all-count.ensures c.if-count-eq0.false c.next_word-word.ensures refl c.find-place.ensures
     (λ v d e. subst (λ (x : SeatView). IsChosen x c.choice-choice.result (get_or (seat_steps x) c.find-place.result.1 d))

@@ -28,4 +28,5 @@ invariant_of-self-2 c =
           (subst (λ n. list_all (is_wish n) wishes ≡ true) (sym homes) (wishes_more _ wishes each))
           (and_right (list_all (is_wish (length old)) wishes) (stamps_run [] wishes) c.self.invariant.3),
       subst (λ l. AreCounts l wishes) (sym counted) (counts_and_client c.self.inside.stamps.items wishes c.self.invariant.4 (subst (λ n. list_all (is_wish n) wishes ≡ true) (sym c.self.invariant.2) each)),
+      c.self.invariant.5,
     )

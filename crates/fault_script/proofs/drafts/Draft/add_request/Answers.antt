@@ -30,4 +30,5 @@ invariant_of-self-2 c =
           (wishes_and_one clients stamps wishes wish c.self.invariant.2 c.self.invariant.4 c.self.invariant.3 (wish_fits clients client (last + 1) c.args.op declared low few c.requires.within) next),
       subst (λ l. AreCounts (slice_set stamps client (last + 1)) l) (sym pushed)
           (subst (λ n. AreCounts (slice_set stamps client (n + 1)) (wishes ++ wish ∷ [])) (sym was) (counts_and_wish stamps wishes wish c.self.invariant.4 counted)),
+      c.self.invariant.5,
     )
